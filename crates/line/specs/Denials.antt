@@ -1,5 +1,7 @@
--- The number of each denial, and of an answer that may be a denial. Assumes nothing.
+-- The number of each denial, and questions that are asked in order. Assumes nothing.
 use Prim.Native.Nat.{ℕ}
+use mathlib.Core.Bool.{Bool, false, cond}
+use lib.Dec.{leb}
 use Rattle.std.specs.declared.result.Result.{Result}
 use Rattle.std.specs.declared.result.Result.the-variants.{Ok, Err}
 use Rattle.line.specs.declared.denial.Denial.{Denial}
@@ -26,3 +28,11 @@ number RequestsMiscounted = 15
 abbrev pub answer-number : {X : Type 0} → Result X Denial → ℕ
 answer-number (Ok x) = 0
 answer-number (Err d) = number d
+
+-- a question: where the answer is no, it denies, else the rest is asked
+abbrev pub ask : Bool → Denial → Result (Unit {0}) Denial → Result (Unit {0}) Denial
+ask answer d rest = cond answer rest (Err d)
+
+-- is n from low to high?
+abbrev pub in-range : ℕ → ℕ → ℕ → Bool
+in-range low high n = cond (leb low n) (leb n high) false

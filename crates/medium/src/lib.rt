@@ -1,0 +1,4 @@
+//! A medium: the trait of everything that stores lines, in terms of the flat array.
+
+pub mod call;
+pub mod medium;
