@@ -115,6 +115,8 @@ pub impl<'a, K: LineKind> Medium for ByteMedium<'a, K> as ByteMediumMedium {
 
     ghost memory = { λ m. name (m .bytes) ∷ name (m .counts) ∷ [] };
 
+    ghost effect = { λ m i v r n. (held (n .bytes) ≡ bytes-after r (held (m .bytes)) (i * K·LineKind .width) (K·LineKind .writing v)) × (held (n .counts) ≡ counts-after r (held (m .counts)) i) };
+
     fn count(&self) -> u16 {
         let count = self.counts.len();
         if self.bytes.len() == count * K::width() {
@@ -146,8 +148,7 @@ pub impl<'a, K: LineKind> Medium for ByteMedium<'a, K> as ByteMediumMedium {
     fn write(&mut self, line: u16, value: K) -> Result<u64, Denial>
         ensures answer { λ r. ⌜ Wrote (byte-array (K·LineKind .reading) (K·LineKind .width) (now (now (self .entry) .bytes)) (now (now (self .entry) .counts)) (now (self .entry) .life)) (sum (now (now (self .entry) .counts))) line value (byte-array (K·LineKind .reading) (K·LineKind .width) (now (now (self .exit) .bytes)) (now (now (self .exit) .counts)) (now (self .exit) .life)) (sum (now (now (self .exit) .counts))) r ⌝ }
         ensures memory { λ _. ⌜ (name (now (self .exit) .bytes) ∷ name (now (self .exit) .counts) ∷ []) ≡ (name (now (self .entry) .bytes) ∷ name (now (self .entry) .counts) ∷ []) ⌝ }
-        ensures bytes { λ r. ⌜ now (now (self .exit) .bytes) ≡ bytes-after r (now (now (self .entry) .bytes)) (line * K·LineKind .width) (K·LineKind .writing value) ⌝ }
-        ensures counts { λ r. ⌜ now (now (self .exit) .counts) ≡ counts-after r (now (now (self .entry) .counts)) line ⌝ }
+        ensures effect { λ r. ⌜ (now (now (self .exit) .bytes) ≡ bytes-after r (now (now (self .entry) .bytes)) (line * K·LineKind .width) (K·LineKind .writing value)) × (now (now (self .exit) .counts) ≡ counts-after r (now (now (self .entry) .counts)) line) ⌝ }
     {
         if line >= self.count() {
             return Err(Denial::NoSuchLine);

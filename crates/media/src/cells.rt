@@ -70,6 +70,8 @@ pub impl<'a, V: Copy> Medium for CellMedium<'a, V> as CellMediumMedium {
 
     ghost memory = { λ m. name (m .cells) ∷ [] };
 
+    ghost effect = { λ m i v r n. held (n .cells) ≡ cells-after r (held (m .cells)) i v };
+
     fn count(&self) -> u16 {
         self.cells.len() as u16
     }
@@ -96,7 +98,7 @@ pub impl<'a, V: Copy> Medium for CellMedium<'a, V> as CellMediumMedium {
     fn write(&mut self, line: u16, value: V) -> Result<u64, Denial>
         ensures answer { λ r. ⌜ Wrote (cell-array (now (now (self .entry) .cells)) (now (self .entry) .taken) (now (self .entry) .life)) (now (self .entry) .taken) line value (cell-array (now (now (self .exit) .cells)) (now (self .exit) .taken) (now (self .exit) .life)) (now (self .exit) .taken) r ⌝ }
         ensures memory { λ _. ⌜ (name (now (self .exit) .cells) ∷ []) ≡ (name (now (self .entry) .cells) ∷ []) ⌝ }
-        ensures cells { λ r. ⌜ now (now (self .exit) .cells) ≡ cells-after r (now (now (self .entry) .cells)) line value ⌝ }
+        ensures effect { λ r. ⌜ now (now (self .exit) .cells) ≡ cells-after r (now (now (self .entry) .cells)) line value ⌝ }
     {
         if line >= self.count() {
             return Err(Denial::NoSuchLine);

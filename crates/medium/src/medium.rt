@@ -5,6 +5,8 @@ ghost use mathlib.Core.List.{List};
 ghost use Prim.Native.Nat.{ℕ, _%_, _^_, _≤_};
 ghost use lib.ListN.{length};
 ghost use base.Fml.{GName};
+ghost use Rattle.std.specs.declared.result.Result.{Result};
+ghost use Rattle.line.specs.declared.denial.Denial.{Denial as Denied};
 ghost use Rattle.medium.specs.Array.{array-of, fetched, Wrote};
 use line::denial::Denial;
 
@@ -24,6 +26,8 @@ pub trait Medium {
     ghost wear: { Self → ℕ };
     // the memory that was lent to it, by the names of the references: a write keeps each
     ghost memory: { Self → List GName };
+    // what a write of a value to a line, with that answer, does besides: what its memory then holds, for one that holds any
+    ghost effect: { Self → ℕ → Self·Line → Result ℕ Denied → Self → Type 0 };
 
     /// How many lines there are, at most 4,096.
     fn count(&self) -> u16
@@ -51,5 +55,6 @@ pub trait Medium {
     /// A number not below the count is denied with 1, and then a used life with 2.
     fn write(&mut self, line: u16, value: Self::Line) -> Result<u64, Denial>
         ensures answer { λ r. ⌜ Wrote (array-of lines taken life (now (self .entry))) (wear (now (self .entry))) line value (array-of lines taken life (now (self .exit))) (wear (now (self .exit))) r ⌝ }
-        ensures memory { λ _. ⌜ memory (now (self .exit)) ≡ memory (now (self .entry)) ⌝ };
+        ensures memory { λ _. ⌜ memory (now (self .exit)) ≡ memory (now (self .entry)) ⌝ }
+        ensures effect { λ r. ⌜ effect (now (self .entry)) line value r (now (self .exit)) ⌝ };
 }

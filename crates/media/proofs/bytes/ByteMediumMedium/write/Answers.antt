@@ -15,12 +15,12 @@ same-two a a′ b b′ e f = cc
 
 pub returns-then-line-count : need.returns-then-line-count
 returns-then-line-count g c =
-    record { answer = wrote-denied _ _ _ _ _ _ _ (denies-line _ _ _ (omega arith)) refl refl; memory = refl; bytes = refl; counts = refl }
+    record { answer = wrote-denied _ _ _ _ _ _ _ (denies-line _ _ _ (omega arith)) refl refl; memory = refl; effect = (refl, refl) }
 
 pub returns-then-self : need.returns-then-self
 returns-then-self g c =
     let s = c .args .self .now .sums in
-    record { answer = wrote-denied _ _ _ _ _ _ _ (denies-life _ _ _ (omega arith) (omega arith)) refl refl; memory = refl; bytes = refl; counts = refl }
+    record { answer = wrote-denied _ _ _ _ _ _ _ (denies-life _ _ _ (omega arith) (omega arith)) refl refl; memory = refl; effect = (refl, refl) }
 
 pub index-self-line : need.index-self-line
 index-self-line g c =
@@ -81,6 +81,5 @@ returns g c =
     record {
       answer = write-wrote get w bs _ cs _ _ _ i (c .args .value) ys h (omega arith) n (c .store .ensures .rest .0) z long (g .K·LineKind·met .back (c .args .value) (c .in-Continue-write-to .ensures tt .fit));
       memory = same-two _ _ _ _ (c .store .ensures .memory .0) (c .store .ensures .memory .1);
-      bytes = z;
-      counts = n;
+      effect = (z, n);
     }

@@ -4,10 +4,10 @@ use Rattle.medium.proofs.Arrays.{wrote-accepted, wrote-denied, denies-line, den
 use Rattle.media.proofs.cells.CellMediumMedium.write.Needs as need
 
 pub returns-then-line-count : need.returns-then-line-count
-returns-then-line-count g c = record { answer = wrote-denied _ _ _ _ _ _ _ (denies-line _ _ _ (omega arith)) refl refl; memory = refl; cells = refl }
+returns-then-line-count g c = record { answer = wrote-denied _ _ _ _ _ _ _ (denies-line _ _ _ (omega arith)) refl refl; memory = refl; effect = refl }
 
 pub returns-then-self : need.returns-then-self
-returns-then-self g c = record { answer = wrote-denied _ _ _ _ _ _ _ (denies-life _ _ _ (omega arith) (omega arith)) refl refl; memory = refl; cells = refl }
+returns-then-self g c = record { answer = wrote-denied _ _ _ _ _ _ _ (denies-life _ _ _ (omega arith) (omega arith)) refl refl; memory = refl; effect = refl }
 
 pub returns : need.returns
-returns g c = record { answer = wrote-accepted _ _ _ _ _ _ _ (omega arith) (omega arith) refl (omega arith) (omega arith); memory = refl; cells = refl }
+returns g c = record { answer = wrote-accepted _ _ _ _ _ _ _ (omega arith) (omega arith) refl (omega arith) (omega arith); memory = refl; effect = refl }

@@ -1,0 +1,5 @@
+mod Undoing
+mod Powers
+mod Networks
+mod Rounds
+mod Xored

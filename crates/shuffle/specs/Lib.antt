@@ -1,0 +1,5 @@
+pub mod Permutations
+pub mod Network
+pub mod Feistel
+pub mod Key
+pub mod Marked
