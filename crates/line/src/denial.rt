@@ -4,7 +4,7 @@ ghost use mathlib.Core.Path.{_≡_};
 ghost use Rattle.line.specs.Denials.{number};
 
 /// The first question of a call that was answered no. Its number is what users and listings see.
-#[derive(Clone, Copy, PartialEq, Eq, Debug)]
+#[derive(Clone, Copy, PartialEq, Eq)]
 pub enum Denial {
     /// The line or place number is not below the count.
     NoSuchLine = 1,

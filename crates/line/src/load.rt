@@ -6,7 +6,7 @@ use crate::denial::Denial;
 use crate::kind::LineKind;
 
 /// What the ship was doing. Values past the four named ones have no name, and are kept as they are.
-#[derive(Clone, Copy, PartialEq, Eq, Debug)]
+#[derive(Clone, Copy, PartialEq, Eq)]
 pub struct Activity(pub u8);
 
 impl Activity {
@@ -20,7 +20,7 @@ impl Activity {
 }
 
 /// One logged load.
-#[derive(Clone, Copy, PartialEq, Eq, Debug)]
+#[derive(Clone, Copy, PartialEq, Eq)]
 pub struct Load {
     /// In seconds.
     pub time: u32,

@@ -1,0 +1,5 @@
+pub mod Asks
+pub mod Faults
+pub mod Layout
+pub mod RunFile
+pub mod Slots

@@ -1,0 +1,3 @@
+pub mod OnBytes
+pub mod Playing
+pub mod Runs
