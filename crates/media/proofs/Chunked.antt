@@ -20,6 +20,7 @@ use Rattle.line.specs.declared.denial.Denial.{Denial}
 use Rattle.medium.specs.Array.{Array, Wrote, fetched}
 use Rattle.medium.proofs.Arrays.{fetched-at, wrote-accepted}
 use Rattle.std.specs.Results.{isErr}
+use Rattle.media.specs.Cells.{Made-as}
 use Rattle.media.specs.Bytes.{byte-survey, chunks, lines-in, byte-array, laid}
 
 -- ---- chunks
@@ -183,3 +184,16 @@ to-picked a b x y z h e = e ∙ sym (ap (λ (t : Bool). cond t x y) (le-leb a b 
 -- ---- the survey
 pub survey-few : (w n life long : ℕ) → isErr (byte-survey w n life long) ≡ false → n ≤ 4096
 survey-few w n life long e = grind (arith, e)
+
+pub lines-empty : {V : Type 0} (get : List ℕ → V) (w : ℕ) → lines-in get w 0 [] ≡ []
+unfolding lines-in
+lines-empty {V} get w = elim (eqb 0 (0 * w)) as (λ b. cond b (chunks get w 0 []) [] ≡ []) [ true ↦ refl | false ↦ refl ]
+
+-- a making that the survey denies
+pub made-unfit : {A : Type 0} (s : Result (Unit {0}) Denial) (a made : Array A) (wear : ℕ) → isErr s ≡ true
+    → made ≡ record { lines = []; taken = 0; life = 0 } → wear ≡ 0 → Made-as s a made wear
+made-unfit (Ok u) a made wear h e w = let z : _≡_ {A = ℕ} 0 1 = cc in absurd (omega arith)
+made-unfit (Err d) a made wear h e w = (e, w)
+
+pub denied-not-ok : (s : Result (Unit {0}) Denial) → isErr s ≡ true → s ≡ Ok tt → _≡_ {A = ℕ} 0 1
+denied-not-ok s h e = cc (ap isErr e)

@@ -18,6 +18,8 @@ use line::kind::LineKind;
 use medium::medium::Medium;
 use std::marker::PhantomData;
 
+mod making;
+
 /// A medium whose lines lie in lent bytes, one after another, each with a count of its writes.
 #[derive(Drop)]
 pub struct ByteMedium<'a, K> {
@@ -61,31 +63,6 @@ fn line_at<K: LineKind>(bytes: &[u8], line: u16) -> Result<K, Denial>
 }
 
 impl<'a, K: LineKind> ByteMedium<'a, K> {
-    /// A medium of the lines in `bytes`, with each count set to 0 and none of its life used.
-    /// Where the survey says no, it has no lines, life 0 and none of the memory, all of which stays unaltered.
-    pub fn new(bytes: &'a mut [u8], counts: &'a mut [u32], life: u64) -> ByteMedium<'a, K>
-        ensures fit { λ r. ⌜ (byte-survey (K·LineKind .width) (length (now (counts .entry))) life (length (now (bytes .entry))) ≡ Ok tt → (now (r .bytes) ≡ now (bytes .entry)) × (now (r .counts) ≡ replicate (length (now (counts .entry))) 0) × (r .life ≡ life) × (name (r .bytes) ≡ name (bytes .entry)) × (name (r .counts) ≡ name (counts .entry))) ⌝ }
-        ensures unfit { λ r. ⌜ ((d : Denied) → byte-survey (K·LineKind .width) (length (now (counts .entry))) life (length (now (bytes .entry))) ≡ Err d → (now (r .bytes) ≡ []) × (now (r .counts) ≡ []) × (r .life ≡ 0)) ⌝ }
-    {
-        if survey::<K>(counts.len(), life, bytes.len()).is_err() {
-            return ByteMedium {
-                bytes: &mut [],
-                counts: &mut [],
-                life: 0,
-                taken: 0,
-                kind: PhantomData,
-            };
-        }
-        counts.fill(0);
-        ByteMedium {
-            bytes,
-            counts,
-            life: life as u32,
-            taken: 0,
-            kind: PhantomData,
-        }
-    }
-
     // Copies `line` into the bytes from `at` on, where there is room for it.
     fn store(&mut self, at: usize, line: &[u8])
         ensures rest { λ _. ⌜ (now (self .exit) .life ≡ now (self .entry) .life) × (now (self .exit) .taken ≡ now (self .entry) .taken) × (now (now (self .exit) .counts) ≡ now (now (self .entry) .counts)) ⌝ }

@@ -12,6 +12,8 @@ ghost use Rattle.media.specs.Cells.{cell-survey, cell-array, cells-after};
 use line::denial::Denial;
 use medium::medium::Medium;
 
+mod making;
+
 /// A medium whose lines are the values of a lent slice.
 #[derive(Drop)]
 pub struct CellMedium<'a, V> {
@@ -33,28 +35,6 @@ pub fn survey(count: usize, life: u64) -> Result<(), Denial>
         return Err(Denial::LifeOutOfRange);
     }
     Ok(())
-}
-
-impl<'a, V> CellMedium<'a, V> {
-    /// A medium of the values in `cells`, none of its life used.
-    /// Where the survey says no, it has no lines, life 0 and none of the memory.
-    pub fn new(cells: &'a mut [V], life: u64) -> CellMedium<'a, V>
-        ensures fit { λ r. ⌜ (cell-survey (length (now (cells .entry))) life ≡ Ok tt → (now (r .cells) ≡ now (cells .entry)) × (name (r .cells) ≡ name (cells .entry)) × (r .life ≡ life) × (r .taken ≡ 0)) ⌝ }
-        ensures unfit { λ r. ⌜ ((d : Denied) → cell-survey (length (now (cells .entry))) life ≡ Err d → (now (r .cells) ≡ []) × (r .life ≡ 0) × (r .taken ≡ 0)) ⌝ }
-    {
-        if survey(cells.len(), life).is_err() {
-            return CellMedium {
-                cells: &mut [],
-                life: 0,
-                taken: 0,
-            };
-        }
-        CellMedium {
-            cells,
-            life: life as u32,
-            taken: 0,
-        }
-    }
 }
 
 pub impl<'a, V: Copy> Medium for CellMedium<'a, V> as CellMediumMedium {
