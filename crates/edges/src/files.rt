@@ -85,14 +85,27 @@ const PLAIN: Parts<'static> = Parts {
     number: 0,
 };
 
+// The plain file with bytes ahead of it, so that it has so many in all.
+fn padded(rt: &LibcRuntime, name: &str, length: usize) -> Result<(), AnyError> {
+    let heap = rt.alloc();
+    let plain = PLAIN.file(heap, 0)?;
+    let ahead = length.saturating_sub(plain.len());
+    let mut file = vec![in heap; 0u8; ahead]?;
+    file.extend_from_slice(&plain)?;
+    show(rt, name, &file)
+}
+
 pub fn trailers(rt: &LibcRuntime) -> Result<(), AnyError> {
     let heap = rt.alloc();
     show(rt, "good", &PLAIN.file(heap, 0)?)?;
+    padded(rt, "good and the longest", 65536)?;
+    padded(rt, "good but for its length", 65537)?;
     show(rt, "first distance one more", &PLAIN.file(heap, 1)?)?;
     show(rt, "first distance one less", &PLAIN.file(heap, u32::MAX)?)?;
     let whole = PLAIN.file(heap, 0)?;
     let n = whole.len();
     if n > 1 {
+        show(rt, "good and the shortest", &whole[1..])?;
         show(rt, "mark cut", &whole[0..n - 1])?;
     }
     reach(rt)

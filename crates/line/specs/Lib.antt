@@ -1,3 +1,4 @@
+pub mod Copies
 pub mod Denials
 pub mod Words
 pub mod Loads

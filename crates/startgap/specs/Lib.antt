@@ -1,0 +1,4 @@
+pub mod Rows
+pub mod Regions
+pub mod Life
+pub mod Theorems
