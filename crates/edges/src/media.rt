@@ -48,17 +48,17 @@ fn exercise<M: Medium<Line = u64>>(
     name: &str,
     medium: &mut M,
 ) -> Result<(), AnyError> {
-    let first = number(&medium.write(1, 7));
-    let past = number(&medium.write(2, 8));
-    let second = number(&medium.write(0, 9));
-    let used = number(&medium.write(1, 10));
-    let past_used = number(&medium.write(2, 10));
+    let first = number(&(*medium).write(1, 7));
+    let past = number(&(*medium).write(2, 8));
+    let second = number(&(*medium).write(0, 9));
+    let used = number(&(*medium).write(1, 10));
+    let past_used = number(&(*medium).write(2, 10));
     println!(
         rt,
         "{name} writes: {first} {past} {second} {used} {past_used}"
     )?;
     for line in 0..3 {
-        match medium.read(line) {
+        match (*medium).read(line) {
             Ok(value) => println!(rt, "{name} read {line}: {value}")?,
             Err(denial) => {
                 let no = denial.number();
@@ -66,10 +66,10 @@ fn exercise<M: Medium<Line = u64>>(
             }
         }
     }
-    let count = medium.count();
-    let life = medium.life();
-    let taken = medium.taken();
-    let wear = medium.wear();
+    let count = (*medium).count();
+    let life = (*medium).life();
+    let taken = (*medium).taken();
+    let wear = (*medium).wear();
     println!(
         rt,
         "{name} count {count} life {life} taken {taken} wear {wear}"

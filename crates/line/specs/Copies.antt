@@ -26,3 +26,12 @@ times-moved line copies = times (λ k. k .moved) line copies
 -- how often a place is copied into
 abbrev pub times-into : ℕ → List Copy → ℕ
 times-into place copies = times (λ k. k .to) place copies
+
+-- what place q holds once each copy has written, in order, what its place read held in `read`
+abbrev pub written : {A : Type 0} → (ℕ → A) → List Copy → (ℕ → A) → ℕ → A
+written read [] held q = held q
+written read (k ∷ ks) held q = written read ks (λ p. cond (eqb p (k .to)) (read (k .from)) (held p)) q
+
+-- what place q holds after copies whose reads all come before the first write
+abbrev pub after-copies : {A : Type 0} → (ℕ → A) → List Copy → ℕ → A
+after-copies held ks = written held ks held

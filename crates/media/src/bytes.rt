@@ -12,6 +12,8 @@ ghost use Rattle.std.specs.declared.result.Result.the-variants.{Ok, Err};
 ghost use Rattle.line.specs.declared.denial.Denial.{Denial as Denied};
 ghost use Rattle.line.specs.declared.denial.Denial.the-variants.{NoSuchLine};
 ghost use Rattle.medium.specs.Array.{Wrote};
+ghost use Rattle.medium.specs.Pile.{bottom, Served};
+ghost use Rattle.medium.specs.declared.call.Call.the-variants.{Write};
 ghost use Rattle.media.specs.Bytes.{byte-survey, lines-in, byte-array, bytes-after, counts-after};
 use line::denial::Denial;
 use line::kind::LineKind;
@@ -90,6 +92,8 @@ pub impl<'a, K: LineKind> Medium for ByteMedium<'a, K> as ByteMediumMedium {
 
     ghost wear = { λ m. sum (held (m .counts)) };
 
+    ghost pile = { λ _. bottom };
+
     ghost memory = { λ m. name (m .bytes) ∷ name (m .counts) ∷ [] };
 
     ghost effect = { λ m i v r n. (held (n .bytes) ≡ bytes-after r (held (m .bytes)) (i * K·LineKind .width) (K·LineKind .writing v)) × (held (n .counts) ≡ counts-after r (held (m .counts)) i) };
@@ -124,10 +128,11 @@ pub impl<'a, K: LineKind> Medium for ByteMedium<'a, K> as ByteMediumMedium {
 
     fn write(&mut self, line: u16, value: K) -> Result<u64, Denial>
         ensures answer { λ r. ⌜ Wrote (byte-array (K·LineKind .reading) (K·LineKind .width) (now (now (self .entry) .bytes)) (now (now (self .entry) .counts)) (now (self .entry) .life)) (sum (now (now (self .entry) .counts))) line value (byte-array (K·LineKind .reading) (K·LineKind .width) (now (now (self .exit) .bytes)) (now (now (self .exit) .counts)) (now (self .exit) .life)) (sum (now (now (self .exit) .counts))) r ⌝ }
+        ensures below { λ _. ⌜ Served bottom (byte-array (K·LineKind .reading) (K·LineKind .width) (now (now (self .entry) .bytes)) (now (now (self .entry) .counts)) (now (self .entry) .life)) (sum (now (now (self .entry) .counts))) (Write line value ∷ []) bottom (sum (now (now (self .exit) .counts))) ⌝ }
         ensures memory { λ _. ⌜ (name (now (self .exit) .bytes) ∷ name (now (self .exit) .counts) ∷ []) ≡ (name (now (self .entry) .bytes) ∷ name (now (self .entry) .counts) ∷ []) ⌝ }
         ensures effect { λ r. ⌜ (now (now (self .exit) .bytes) ≡ bytes-after r (now (now (self .entry) .bytes)) (line * K·LineKind .width) (K·LineKind .writing value)) × (now (now (self .exit) .counts) ≡ counts-after r (now (now (self .entry) .counts)) line) ⌝ }
     {
-        if line >= self.count() {
+        if line >= (*self).count() {
             return Err(Denial::NoSuchLine);
         }
         if self.taken >= self.life {

@@ -8,6 +8,8 @@ ghost use denote.Ref.{now as held, name};
 ghost use Rattle.std.specs.declared.result.Result.the-variants.{Ok, Err};
 ghost use Rattle.line.specs.declared.denial.Denial.{Denial as Denied};
 ghost use Rattle.medium.specs.Array.{Wrote};
+ghost use Rattle.medium.specs.Pile.{bottom, Served};
+ghost use Rattle.medium.specs.declared.call.Call.the-variants.{Write};
 ghost use Rattle.media.specs.Cells.{cell-survey, cell-array, cells-after};
 use line::denial::Denial;
 use medium::medium::Medium;
@@ -48,6 +50,8 @@ pub impl<'a, V: Copy> Medium for CellMedium<'a, V> as CellMediumMedium {
 
     ghost wear = { λ m. m .taken };
 
+    ghost pile = { λ _. bottom };
+
     ghost memory = { λ m. name (m .cells) ∷ [] };
 
     ghost effect = { λ m i v r n. held (n .cells) ≡ cells-after r (held (m .cells)) i v };
@@ -77,10 +81,11 @@ pub impl<'a, V: Copy> Medium for CellMedium<'a, V> as CellMediumMedium {
 
     fn write(&mut self, line: u16, value: V) -> Result<u64, Denial>
         ensures answer { λ r. ⌜ Wrote (cell-array (now (now (self .entry) .cells)) (now (self .entry) .taken) (now (self .entry) .life)) (now (self .entry) .taken) line value (cell-array (now (now (self .exit) .cells)) (now (self .exit) .taken) (now (self .exit) .life)) (now (self .exit) .taken) r ⌝ }
+        ensures below { λ _. ⌜ Served bottom (cell-array (now (now (self .entry) .cells)) (now (self .entry) .taken) (now (self .entry) .life)) (now (self .entry) .taken) (Write line value ∷ []) bottom (now (self .exit) .taken) ⌝ }
         ensures memory { λ _. ⌜ (name (now (self .exit) .cells) ∷ []) ≡ (name (now (self .entry) .cells) ∷ []) ⌝ }
         ensures effect { λ r. ⌜ now (now (self .exit) .cells) ≡ cells-after r (now (now (self .entry) .cells)) line value ⌝ }
     {
-        if line >= self.count() {
+        if line >= (*self).count() {
             return Err(Denial::NoSuchLine);
         }
         if self.taken >= self.life {

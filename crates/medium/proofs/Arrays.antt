@@ -6,7 +6,7 @@ use mathlib.Core.List.{List, [], _∷_, _++_}
 use Prim.Native.Nat.{ℕ, _+_, _-_, _%_, _^_, _<_, _≤_}
 use lib.Dec.{ltb}
 use lib.ListN.{length, set, getD}
-use Rattle.std.proofs.shelf.Lists.{length-set}
+use Rattle.std.proofs.shelf.Lists.{getD-default}
 use Rattle.std.proofs.shelf.Maps.{nth-past, nth-read}
 use Rattle.std.proofs.shelf.Tests.{lt-ltb, le-ltb}
 use Rattle.std.specs.Options.{okOr}
@@ -61,6 +61,9 @@ next-read a i = elim (denied-by a (Read i)) as (λ o. unless-denied o a a ≡ a)
 -- ---- what a read answers
 pub fetched-at : {A : Type 0} (ls : List A) (i : ℕ) (v : A) → i < length ls → v ≡ getD ls i v → Ok v ≡ fetched ls i
 fetched-at ls i v h e = sym (ap (λ o. okOr o NoSuchLine) (nth-read ls (length ls) i v refl h e))
+
+pub fetched-by : {A : Type 0} (ls : List A) (i : ℕ) (v d : A) → i < length ls → v ≡ getD ls i d → Ok v ≡ fetched ls i
+fetched-by ls i v d h e = fetched-at ls i v h (e ∙ getD-default ls i d v h)
 
 pub fetched-past : {A : Type 0} (ls : List A) (i : ℕ) → length ls ≤ i → Err NoSuchLine ≡ fetched ls i
 fetched-past ls i h = sym (ap (λ o. okOr o NoSuchLine) (nth-past ls i h))

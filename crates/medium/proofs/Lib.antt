@@ -1,1 +1,4 @@
 pub mod Arrays
+pub mod Layers
+pub mod Piles
+pub mod Fittings

@@ -1,2 +1,4 @@
 pub mod Array
+pub mod Law
 pub mod Meaning
+pub mod Pile

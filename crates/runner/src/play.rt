@@ -24,7 +24,7 @@ fn answer<M: Medium<Line = Load>>(medium: &mut M, request: Request<'_>) -> Answe
     ensures memory { λ _. ⌜ M·Medium .memory (now (medium .exit)) ≡ M·Medium .memory (now (medium .entry)) ⌝ }
 {
     match request {
-        Request::Read { line, place: _ } => match medium.read(line) {
+        Request::Read { line, place: _ } => match (*medium).read(line) {
             Ok(load) => Answer::Line(load),
             Err(denial) => Answer::Denied(denial),
         },
@@ -36,7 +36,7 @@ fn answer<M: Medium<Line = Load>>(medium: &mut M, request: Request<'_>) -> Answe
             let Ok(load) = Load::read_from(bytes) else {
                 unreachable();
             };
-            match medium.write(line, load) {
+            match (*medium).write(line, load) {
                 Ok(toll) => Answer::Toll(toll),
                 Err(denial) => Answer::Denied(denial),
             }

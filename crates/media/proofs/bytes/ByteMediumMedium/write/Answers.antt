@@ -5,6 +5,7 @@ use native.Mathlib.Omega.{arith}
 use lib.ListN.{length, getD, set}
 use base.Fml.{GName}
 use Rattle.std.specs.shelf.Lists.{sum}
+use Rattle.medium.proofs.Piles.{served-bottom}
 use Rattle.medium.proofs.Arrays.{wrote-denied, denies-line, denies-life}
 use Rattle.media.specs.Bytes.{lines-in}
 use Rattle.media.proofs.Chunked.{line-there, line-room, paste-laid, write-wrote, counts-more, count-le, picked}
@@ -15,12 +16,12 @@ same-two a a′ b b′ e f = cc
 
 pub returns-then-line-count : need.returns-then-line-count
 returns-then-line-count g c =
-    record { answer = wrote-denied _ _ _ _ _ _ _ (denies-line _ _ _ (omega arith)) refl refl; memory = refl; effect = (refl, refl) }
+    record { answer = wrote-denied _ _ _ _ _ _ _ (denies-line _ _ _ (omega arith)) refl refl; below = served-bottom _ _ _ _; memory = refl; effect = (refl, refl) }
 
 pub returns-then-self : need.returns-then-self
 returns-then-self g c =
     let s = c .args .self .now .sums in
-    record { answer = wrote-denied _ _ _ _ _ _ _ (denies-life _ _ _ (omega arith) (omega arith)) refl refl; memory = refl; effect = (refl, refl) }
+    record { answer = wrote-denied _ _ _ _ _ _ _ (denies-life _ _ _ (omega arith) (omega arith)) refl refl; below = served-bottom _ _ _ _; memory = refl; effect = (refl, refl) }
 
 pub index-self-line : need.index-self-line
 index-self-line g c =
@@ -80,6 +81,7 @@ returns g c =
     let n = ap (λ (l : List ℕ). set l i (getD l i 0 + 1)) same in
     record {
       answer = write-wrote get w bs _ cs _ _ _ i (c .args .value) ys h (omega arith) n (c .store .ensures .rest .0) z long (g .K·LineKind·met .back (c .args .value) (c .in-Continue-write-to .ensures tt .fit));
+      below = served-bottom _ _ _ _;
       memory = same-two _ _ _ _ (c .store .ensures .memory .0) (c .store .ensures .memory .1);
       effect = (z, n);
     }

@@ -1,0 +1,4 @@
+mod Fields
+mod Holders
+mod Making
+mod Written

@@ -1,0 +1,3 @@
+//! The layer of gap regions, over every medium.
+
+pub mod layer;

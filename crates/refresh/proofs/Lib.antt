@@ -1,0 +1,11 @@
+pub mod Xors
+pub mod Places
+pub mod Refreshes
+pub mod Contents
+pub mod Mates
+pub mod Quotients
+pub mod Walks
+pub mod Writes
+pub mod Counts
+pub mod Lives
+pub mod Powers

@@ -1,0 +1,4 @@
+pub mod Powers
+pub mod Refresh
+pub mod Life
+pub mod Theorems

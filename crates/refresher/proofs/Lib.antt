@@ -1,0 +1,5 @@
+mod Sizes
+mod Lines
+mod Held
+mod Written
+mod Making
