@@ -1,5 +1,7 @@
 //! Run files out of readable lines: what a text says, as the bytes of a run file.
 
+#![tactic(auto)]
+
 mod bytes;
 pub mod compose;
 mod fields;

@@ -1,5 +1,7 @@
 //! Every denial and fault at its edge: each case prints one line, which is held to the file `stdout`.
 
+#![tactic(auto)]
+
 mod files;
 mod kinds;
 mod media;

@@ -1,3 +1,5 @@
 //! The layer of gap regions, over every medium.
 
+#![tactic(auto)]
+
 pub mod layer;

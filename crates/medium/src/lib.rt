@@ -1,5 +1,7 @@
 //! A medium: the trait of everything that stores lines, in terms of the flat array.
 
+#![tactic(auto)]
+
 pub mod call;
 pub mod lent;
 pub mod medium;

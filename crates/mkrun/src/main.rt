@@ -1,5 +1,7 @@
 //! The program `mkrun`: readable lines on standard input, the bytes of a run file on standard output.
 
+#![tactic(auto)]
+
 use anyhow::anyhow;
 use compose::compose::compose;
 use runfile::lengths;

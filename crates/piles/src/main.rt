@@ -1,5 +1,7 @@
 //! Piles of layers over bytes, driven by successions of calls: what each call answers, and what the pile then says of itself.
 
+#![tactic(auto)]
+
 use gap::layer::GapLayer;
 use line::load::{Activity, Load};
 use media::bytes::ByteMedium;

@@ -1,4 +1,6 @@
 //! The reader of run files: every question in its order, the requests in turn, and the slots that it fills.
 
+#![tactic(auto)]
+
 pub mod reader;
 pub mod requests;

@@ -1,5 +1,7 @@
 //! The program `replay`: a run file on standard input, its listing on standard output.
 
+#![tactic(auto)]
+
 ghost use Rattle.std.specs.Prelude.{◌≤◌, length, IfOk};
 
 use listing::listing::Listing;

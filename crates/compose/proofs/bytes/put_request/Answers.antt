@@ -10,7 +10,7 @@ pub returns-in-Write : goal.returns-in-Write
 returns-in-Write c =
     let xs = vec_items c.args.file.now in
     record {
-      items = put_two xs _ _ _ _ _ _ c.put-in-Write.ensures.items c.put-in-Write-2.ensures.items c.asked-in-Write.ensures.bytes c.write-to.ensures.after ∙ ap (λ (q : Request). xs ++ ask_bytes (ask_of q)) (sym c.in-Write.is);
+      items = put_two xs _ _ _ _ _ _ c.put-in-Write.ensures.items c.put-in-Write-2.ensures.items c.asked-in-Write.ensures.bytes c.write_to.ensures.after ∙ ap (λ (q : Request). xs ++ ask_bytes (ask_of q)) (sym c.in-Write.is);
       len = search rules;
       capacity = search rules;
     }

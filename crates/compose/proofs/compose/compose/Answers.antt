@@ -7,15 +7,15 @@ use Rattle.compose.proofs.Widths.{fitting}
 use Rattle.compose.proofs.Whole.{taken_away}
 use Rattle.compose.proofs.compose.compose.Goals as goal
 
-pub returns-then-is-err : goal.returns-then-is-err
-returns-then-is-err c = record { answer = search rules; exact = tt; one = one_meaning c.args.text.now; fits = fitting c.args.text.now; cuts = cuts }
+pub returns-then-is_err : goal.returns-then-is_err
+returns-then-is_err c = record { answer = search rules; exact = tt; one = one_meaning c.args.text.now; fits = fitting c.args.text.now; cuts = cuts }
 
 pub returns-in-Ok : goal.returns-in-Ok
 returns-in-Ok c =
     let text = c.args.text.now in
     let a = c.in-Ok.ensures.answer in
     let x : Script = a.0 in
-    let items : vec_items c.append-run.new.file ≡ vec_items c.args.file.now ++ file_of x = a.1.1 ∙ ap (λ (z : List ℕ). z ++ file_of x) c.reserve.ensures.items in
+    let items : vec_items c.append_run.new.file ≡ vec_items c.args.file.now ++ file_of x = a.1.1 ∙ ap (λ (z : List ℕ). z ++ file_of x) c.reserve.ensures.items in
     let t = script_says text x a.1.0 in
     record { answer = (x, (a.1.0, items)); exact = (x.settings, (x.asks, (t.0, items, t.1))); one = one_meaning text; fits = fitting c.args.text.now; cuts = cuts }
 

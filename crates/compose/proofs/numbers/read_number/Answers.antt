@@ -36,6 +36,6 @@ loop-byte-preserved c =
 pub returns : goal.returns
 returns c =
     let w = c.args.word.now in
-    let some : 0 < length w = omega (arith, false-eqb (length w) 0 c.if-is-empty.ensures) in
+    let some : 0 < length w = omega (arith, false-eqb (length w) 0 c.if-is_empty.ensures) in
     let e = digits_end c.args.greatest c.loop-byte.number w c.loop-byte.byte-index (omega arith) in
     record { answer = sym e ∙ c.loop-byte.invariant.1 ∙ number_starts c.args.greatest w some; bound = c.loop-byte.invariant.0 }

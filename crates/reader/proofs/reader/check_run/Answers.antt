@@ -5,7 +5,7 @@ use Rattle.reader.specs.Reading.{run_in}
 use Rattle.reader.proofs.First.{settings_broke}
 use Rattle.reader.proofs.reader.check_run.Goals as goal
 
-pub returns-in-err-run : goal.returns-in-err-run
-returns-in-err-run c =
-    let p = err_from_is_err_and c.from-residual.result c.from-residual.ensures.1 in
-    record { answer = rw (p.1, p.2) (ap run_in (settings_broke c.args.file.now c.args.slots c.in-err-run.field-0.0 c.in-err-run.ensures.answer)) }
+pub returns-in_err-run : goal.returns-in_err-run
+returns-in_err-run c =
+    let p = err_from_is_err_and c.from_residual.result c.from_residual.ensures.1 in
+    record { answer = rw (p.1, p.2) (ap run_in (settings_broke c.args.file.now c.args.slots c.in_err-run.field-0.0 c.in_err-run.ensures.answer)) }

@@ -11,19 +11,19 @@ loop-i-init c =
     let a : c.new-requests.result.at ≡ c.args.from = omega (arith, c.new-requests.ensures.at) in
     (c.new-requests.ensures.file, c.new-requests.ensures.end ∙ e, ahead_none _ _ _ _ _ a c.requires.checked, refl)
 
-pub returns-in-err-request : goal.returns-in-err-request
-returns-in-err-request c =
+pub returns-in_err-request : goal.returns-in_err-request
+returns-in_err-request c =
     absurd (ahead_err c.args.file.now c.loop-i.requests.file.now c.args.from (length c.args.file.now - 16) c.loop-i.requests.end c.args.number c.loop-i.i c.loop-i.requests.at c.next.new.self.at
-    c.in-err-request.field-0.0 (omega arith) c.loop-i.invariant.0 c.loop-i.invariant.1 c.loop-i.invariant.2 c.in-err-request.ensures.handed)
+    c.in_err-request.field-0.0 (omega arith) c.loop-i.invariant.0 c.loop-i.invariant.1 c.loop-i.invariant.2 c.in_err-request.ensures.handed)
 
 pub loop-i-preserved : goal.loop-i-preserved
 loop-i-preserved c =
-    let q = c.in-ok-request.request in
+    let q = c.in_ok-request.request in
     let all = requests_from c.args.file.now c.args.from c.args.number in
     let a = ahead_ok c.args.file.now c.loop-i.requests.file.now c.args.from (length c.args.file.now - 16) c.loop-i.requests.end c.args.number c.loop-i.i c.loop-i.requests.at c.next.new.self.at
-    q (placed_of q) (omega arith) c.loop-i.invariant.0 c.loop-i.invariant.1 c.loop-i.invariant.2 c.in-ok-request.ensures.handed in (
-      c.in-ok-request.ensures.file ∙ c.loop-i.invariant.0,
-      c.in-ok-request.ensures.end ∙ c.loop-i.invariant.1,
+    q (placed_of q) (omega arith) c.loop-i.invariant.0 c.loop-i.invariant.1 c.loop-i.invariant.2 c.in_ok-request.ensures.handed in (
+      c.in_ok-request.ensures.file ∙ c.loop-i.invariant.0,
+      c.in_ok-request.ensures.end ∙ c.loop-i.invariant.1,
       a.0,
       filled_more all c.loop-i.i c.args.slots.now c.loop-i.slots c.unmarked.result (placed_of q) (omega (arith, length_requests_from c.args.file.now c.args.from c.args.number)) (omega arith) c.unmarked.ensures.slot a.1 c.loop-i.invariant.3,
     )

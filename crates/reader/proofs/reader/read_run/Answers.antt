@@ -10,35 +10,35 @@ use Rattle.reader.proofs.Questions.{ready}
 use Rattle.reader.proofs.Written.{read_back}
 use Rattle.reader.proofs.reader.read_run.Goals as goal
 
-pub returns-in-err-run : goal.returns-in-err-run
-returns-in-err-run c =
+pub returns-in_err-run : goal.returns-in_err-run
+returns-in_err-run c =
     let f = c.args.file.now in
     let n = length c.args.slots.now in
-    let p = err_from_is_err_and c.from-residual.result c.from-residual.ensures.1 in
-    let a : c.from-residual.result ≡ run_in (reading f n) = p.1 ∙ ap {B = Result Run Fault} Err p.2 ∙ c.in-err-run.ensures.answer in
-    let e = read_broke f n c.in-err-run.field-0.0 c.in-err-run.ensures.answer in
+    let p = err_from_is_err_and c.from_residual.result c.from_residual.ensures.1 in
+    let a : c.from_residual.result ≡ run_in (reading f n) = p.1 ∙ ap {B = Result Run Fault} Err p.2 ∙ c.in_err-run.ensures.answer in
+    let e = read_broke f n c.in_err-run.field-0.0 c.in_err-run.ensures.answer in
     record {
       answer = a;
       slots = ap (λ (x : Result Reading Fault). slots_after x c.args.slots.now) (sym e);
-      exact = exact f n c.from-residual.result a;
+      exact = exact f n c.from_residual.result a;
       one = one_meaning f;
       back = read_back;
     }
 
-pub fill-slots-requires : goal.fill-slots-requires
-fill-slots-requires c =
-    let r = ready c.args.file.now (length c.args.slots.now) c.in-ok-run.run' c.in-ok-run.ensures.answer in
+pub fill_slots-requires : goal.fill_slots-requires
+fill_slots-requires c =
+    let r = ready c.args.file.now (length c.args.slots.now) c.in_ok-run.run' c.in_ok-run.ensures.answer in
     record { length = (r.inside, r.short); room = r.room; checked = r.checked }
 
 pub returns : goal.returns
 returns c =
     let f = c.args.file.now in
     let n = length c.args.slots.now in
-    let a = c.in-ok-run.ensures.answer in
-    let r = ready f n c.in-ok-run.run' a in
+    let a = c.in_ok-run.ensures.answer in
+    let r = ready f n c.in_ok-run.run' a in
     record {
       answer = a;
-      slots = c.fill-slots.ensures.slots ∙ ap (λ (x : Result Reading Fault). slots_after x c.args.slots.now) (sym r.read);
+      slots = c.fill_slots.ensures.slots ∙ ap (λ (x : Result Reading Fault). slots_after x c.args.slots.now) (sym r.read);
       exact = exact f n _ a;
       one = one_meaning f;
       back = read_back;

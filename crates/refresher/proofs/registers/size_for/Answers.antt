@@ -14,5 +14,5 @@ pub returns : goal.returns
 returns c =
     record {
       value = one_shl c.ilog2.result 16 c.ilog2.ensures.bound
-          ∙ greatest_shift c.args.count c.ilog2.result (omega arith) c.ilog2.ensures.power_le c.ilog2.ensures.next-power-gt;
+          ∙ greatest_shift c.args.count c.ilog2.result (omega arith) c.ilog2.ensures.power_le c.ilog2.ensures.next_power_gt;
     }

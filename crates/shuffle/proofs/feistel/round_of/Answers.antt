@@ -3,6 +3,6 @@ use Rattle.std.proofs.Common.{arith}
 use Rattle.shuffle.specs.Rounds.{mixed_fits}
 use Rattle.shuffle.proofs.feistel.round_of.Goals as goal
 
-pub overflow-mul-result : goal.overflow-mul-result
-overflow-mul-result c =
-    omega (arith, mixed_fits c.args.n c.args.half c.args.key c.half-size-size.result c.half-size-size.ensures.value c.requires.few c.requires.within)
+pub overflow_mul-result : goal.overflow_mul-result
+overflow_mul-result c =
+    omega (arith, mixed_fits c.args.n c.args.half c.args.key c.half_size-size.result c.half_size-size.ensures.value c.requires.few c.requires.within)

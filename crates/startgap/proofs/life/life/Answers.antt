@@ -10,5 +10,5 @@ returns c =
     let interval = c.args.interval in
     let whole = left / (interval + 1) * interval in
     let is : whole + c.min.result ≡ life_of left interval =
-    ap (λ x. whole + x) (c.min.ensures ∙ ap (λ x. min (left % (interval + 1)) x) c.saturating-sub.ensures) in
+    ap (λ x. whole + x) (c.min.ensures ∙ ap (λ x. min (left % (interval + 1)) x) c.saturating_sub.ensures) in
     record { answer = is; greatest = λ h. subst (λ d. GreatestLife left interval d) (sym is) (greatest_life left interval h) }

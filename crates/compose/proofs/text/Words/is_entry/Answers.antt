@@ -15,4 +15,4 @@ hash (b ∷ w) false h = sym (ne_eqb b 35 (λ e. clash (h.1 w (ap (λ (x : ℕ).
 pub returns-in-Some : goal.returns-in-Some
 returns-in-Some c =
     let w = c.in-Some.word.now in
-    record { answer = ap not (hash w _ (starts_is Decides-eqb w (35 ∷ []) _ c.starts-with.ensures.value)) ∙ sym (ap is_entry c.in-Some.ensures.words) }
+    record { answer = ap not (hash w _ (starts_is Decides-eqb w (35 ∷ []) _ c.starts_with.ensures.value)) ∙ sym (ap is_entry c.in-Some.ensures.words) }

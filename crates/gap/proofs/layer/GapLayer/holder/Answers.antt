@@ -19,15 +19,15 @@ bounds-self-region g c =
     let few = x.few in
     omega arith
 
-pub overflow-mul-result : goal.overflow-mul-result
-overflow-mul-result g c =
+pub overflow_mul-result : goal.overflow_mul-result
+overflow_mul-result g c =
     let x = c.args.self.now in
     let p = parts_below x.regions x.size c.args.place c.split-region.result (omega arith) c.split-region.ensures in
     let n = line_narrow x.regions x.size c.split-region.result.0 0 x.inside p.0 x.sized in
     omega arith
 
-pub overflow-add-result : goal.overflow-add-result
-overflow-add-result g c =
+pub overflow_add-result : goal.overflow_add-result
+overflow_add-result g c =
     let x = c.args.self.now in
     let region = c.split-region.result.0 in
     let p = parts_below x.regions x.size c.args.place c.split-region.result (omega arith) c.split-region.ensures in

@@ -10,26 +10,26 @@ use Rattle.gap.specs.Regions.{gap_survey}
 use Rattle.gap.proofs.Making.{survey_yes, yes_not_no, no_not_yes, surveyed, each_row, new_made, unfit_array}
 use Rattle.gap.proofs.layer.GapLayer.new.Goals as goal
 
-pub returns-then-is-err : goal.returns-then-is-err
-returns-then-is-err g c =
+pub returns-then-is_err : goal.returns-then-is_err
+returns-then-is_err g c =
     let b = means g.M.Medium c.args.below in
     let same = surveyed c.args.regions c.args.interval c.count-count.result (length b.lines) (c.life.result - c.taken.result) (left b) (omega arith) (omega arith) in
     let no : is_err (gap_survey c.args.regions c.args.interval (length b.lines) (left b)) ≡ true =
-    sym (ap is_err (c.survey.ensures ∙ same)) ∙ sym c.is-err.ensures.value ∙ c.if-is-err.true in
+    sym (ap is_err (c.survey.ensures ∙ same)) ∙ sym c.is_err.ensures.value ∙ c.if-is_err.true in
     record {
       kept = refl;
       fit = λ e. let z = no_not_yes _ no e in absurd (omega arith);
       unfit = λ d e. record { unfit = unfit_array _ b; wear = refl; pile = refl };
     }
 
-pub invariant-of-result-2 : goal.invariant-of-result-2
-invariant-of-result-2 g c =
+pub invariant_of-result-2 : goal.invariant_of-result-2
+invariant_of-result-2 g c =
     let R = c.args.regions in
     let n = c.count-count.result in
     let K = n / R - 1 in
     let w = new_row K in
     let yes : is_err (gap_survey R c.args.interval n (c.life.result - c.taken.result)) ≡ false =
-    sym (ap is_err c.survey.ensures) ∙ sym c.is-err.ensures.value ∙ c.if-is-err.false in
+    sym (ap is_err c.survey.ensures) ∙ sym c.is_err.ensures.value ∙ c.if-is_err.false in
     let y = survey_yes R c.args.interval n (c.life.result - c.taken.result) yes in
     let few = y.few in
     let paced = y.paced in
@@ -72,7 +72,7 @@ returns g c =
     let l = c.life.result - c.taken.result in
     let same = surveyed R c.args.interval n (length b.lines) l (left b) (omega arith) (omega arith) in
     let yes : is_err (gap_survey R c.args.interval n l) ≡ false =
-    sym (ap is_err c.survey.ensures) ∙ sym c.is-err.ensures.value ∙ c.if-is-err.false in
+    sym (ap is_err c.survey.ensures) ∙ sym c.is_err.ensures.value ∙ c.if-is_err.false in
     let y = survey_yes R c.args.interval n l yes in
     record {
       kept = refl;

@@ -17,5 +17,5 @@ pub returns : goal.returns
 unfolding gap_place
 returns g c =
     let x = c.args.self.now in
-    ap (λ y. c.split-region.result.0 * (x.size + 1) + y) c.place-in-row.ensures.answer
+    ap (λ y. c.split-region.result.0 * (x.size + 1) + y) c.place_in_row.ensures.answer
     ∙ ap (λ (p : ℕ × ℕ). p.0 * (x.size + 1) + row_place x.size (get_or x.rows p.0 no_row) p.1) c.split-region.ensures

@@ -69,15 +69,15 @@ bounds-self-region g c =
     let few = x.few in
     omega arith
 
-pub returns-in-err-toll : goal.returns-in-err-toll
-returns-in-err-toll g c =
+pub returns-in_err-toll : goal.returns-in_err-toll
+returns-in_err-toll g c =
     let x = c.args.self.now in
     let i = c.args.line in
     let G = registers_of x in
     let b = means g.M.Medium x.below in
     let h : i < length (gap_lines G b.lines) = omega arith in
     let k : x.taken < gap_life G x.life x.taken (left b) = omega arith in
-    absurd (never _ _ (write_accepted G x.life x.taken (fields x) b i c.place-place.result c.args.value h k c.place-place.ensures) c.in-err-toll.ensures.answer.answer.0)
+    absurd (never _ _ (write_accepted G x.life x.taken (fields x) b i c.place-place.result c.args.value h k c.place-place.ensures) c.in_err-toll.ensures.answer.answer.0)
 
 pub bounds-self-region-then-row-self : goal.bounds-self-region-then-row-self
 bounds-self-region-then-row-self g c =
@@ -91,8 +91,8 @@ bounds-self-region-then-row-self g c =
     let few = x.few in
     omega arith
 
-pub invariant-of-self-then-row-self : goal.invariant-of-self-then-row-self
-invariant-of-self-then-row-self g c =
+pub invariant_of-self-then-row-self : goal.invariant_of-self-then-row-self
+invariant_of-self-then-row-self g c =
     let x = c.args.self.now in
     let i = c.args.line in
     let G = registers_of x in
@@ -101,7 +101,7 @@ invariant-of-self-then-row-self g c =
     let k : x.taken < gap_life G x.life x.taken (left b) = omega arith in
     let hi = (line_there G x.life x.taken (fields x) b i h).0 in
     let tl = (write_paid G x.life x.taken (fields x) b k).0 in
-    let q = held_counted G x.life x.taken (fields x) i hi tl c.count-write.new.row c.count-write.ensures c.if-row-self.true in
+    let q = held_counted G x.life x.taken (fields x) i hi tl c.count_write.new.row c.count_write.ensures c.if-row-self.true in
     (q.within, (x.few, (x.sized, (x.small, (x.inside, (q.enough, (q.starts, (q.holes, (q.dues, (q.counted, tt))))))))))
 
 pub returns-then-row-self : goal.returns-then-row-self
@@ -117,17 +117,17 @@ returns-then-row-self g c =
     let u1 = g.M.Medium.wear c.write.new.self in
     let p = c.place-place.result in
     let e = c.place-place.ensures in
-    let w1 = c.in-ok-toll.ensures.answer in
+    let w1 = c.in_ok-toll.ensures.answer in
     let pile = g.M.Medium.pile x.below in
     record {
-      answer = counted_wrote G x.life x.taken (fields x) b b1 i p c.args.value u u1 c.in-ok-toll.toll h k e w1 c.count-write.new.row c.count-write.ensures c.if-row-self.true;
-      below = counted_served G x.life x.taken (fields x) b b1 i p c.args.value u u1 c.in-ok-toll.toll h k e w1 c.count-write.new.row c.count-write.ensures c.if-row-self.true pile (g.M.Medium.pile c.write.new.self) c.in-ok-toll.ensures.below;
-      memory = c.in-ok-toll.ensures.memory;
+      answer = counted_wrote G x.life x.taken (fields x) b b1 i p c.args.value u u1 c.in_ok-toll.toll h k e w1 c.count_write.new.row c.count_write.ensures c.if-row-self.true;
+      below = counted_served G x.life x.taken (fields x) b b1 i p c.args.value u u1 c.in_ok-toll.toll h k e w1 c.count_write.new.row c.count_write.ensures c.if-row-self.true pile (g.M.Medium.pile c.write.new.self) c.in_ok-toll.ensures.below;
+      memory = c.in_ok-toll.ensures.memory;
       effect = tt;
     }
 
-pub overflow-add-from : goal.overflow-add-from
-overflow-add-from g c =
+pub overflow_add-from : goal.overflow_add-from
+overflow_add-from g c =
     let x = c.args.self.now in
     let i = c.args.line in
     let G = registers_of x in
@@ -142,8 +142,8 @@ overflow-add-from g c =
     let all = x.inside in
     omega arith
 
-pub returns-in-err-moved : goal.returns-in-err-moved
-returns-in-err-moved g c =
+pub returns-in_err-moved : goal.returns-in_err-moved
+returns-in_err-moved g c =
     let x = c.args.self.now in
     let i = c.args.line in
     let G = registers_of x in
@@ -155,12 +155,12 @@ returns-in-err-moved g c =
     let u1 = g.M.Medium.wear c.write.new.self in
     let p = c.place-place.result in
     let e = c.place-place.ensures in
-    let w1 = c.in-ok-toll.ensures.answer in
+    let w1 = c.in_ok-toll.ensures.answer in
     let from : i / x.size * (x.size + 1) + c.source.result ≡ (region_copy G (i / x.size)).from = ap (λ y. i / x.size * (x.size + 1) + y) c.source.ensures in
-    absurd (fetched_never b1.lines (region_copy G (i / x.size)).from _ (from_there G x.life x.taken (fields x) b b1 i p c.args.value u u1 c.in-ok-toll.toll h k e w1) (c.in-err-moved.ensures.answer ∙ ap (λ y. fetched b1.lines y) from))
+    absurd (fetched_never b1.lines (region_copy G (i / x.size)).from _ (from_there G x.life x.taken (fields x) b b1 i p c.args.value u u1 c.in_ok-toll.toll h k e w1) (c.in_err-moved.ensures.answer ∙ ap (λ y. fetched b1.lines y) from))
 
-pub overflow-add-to : goal.overflow-add-to
-overflow-add-to g c =
+pub overflow_add-to : goal.overflow_add-to
+overflow_add-to g c =
     let x = c.args.self.now in
     let i = c.args.line in
     let G = registers_of x in
@@ -174,8 +174,8 @@ overflow-add-to g c =
     let all = x.inside in
     omega arith
 
-pub returns-in-err-more : goal.returns-in-err-more
-returns-in-err-more g c =
+pub returns-in_err-more : goal.returns-in_err-more
+returns-in_err-more g c =
     let x = c.args.self.now in
     let i = c.args.line in
     let G = registers_of x in
@@ -187,8 +187,8 @@ returns-in-err-more g c =
     let u1 = g.M.Medium.wear c.write.new.self in
     let p = c.place-place.result in
     let e = c.place-place.ensures in
-    let w1 = c.in-ok-toll.ensures.answer in
-    absurd (never _ _ (move_accepted G x.life x.taken (fields x) b b1 i p c.args.value u u1 c.in-ok-toll.toll h k e w1 c.if-row-self.false c.in-ok-moved.moved) c.in-err-more.ensures.answer.answer.0)
+    let w1 = c.in_ok-toll.ensures.answer in
+    absurd (never _ _ (move_accepted G x.life x.taken (fields x) b b1 i p c.args.value u u1 c.in_ok-toll.toll h k e w1 c.if-row-self.false c.in_ok-moved.moved) c.in_err-more.ensures.answer.answer.0)
 
 pub bounds-self-region-2 : goal.bounds-self-region-2
 bounds-self-region-2 g c =
@@ -202,8 +202,8 @@ bounds-self-region-2 g c =
     let few = x.few in
     omega arith
 
-pub invariant-of-self-2 : goal.invariant-of-self-2
-invariant-of-self-2 g c =
+pub invariant_of-self-2 : goal.invariant_of-self-2
+invariant_of-self-2 g c =
     let x = c.args.self.now in
     let i = c.args.line in
     let G = registers_of x in
@@ -228,21 +228,21 @@ returns g c =
     let u1 = g.M.Medium.wear c.write.new.self in
     let p = c.place-place.result in
     let e = c.place-place.ensures in
-    let w1 = c.in-ok-toll.ensures.answer in
+    let w1 = c.in_ok-toll.ensures.answer in
     let from : i / x.size * (x.size + 1) + c.source.result ≡ (region_copy G (i / x.size)).from = ap (λ y. i / x.size * (x.size + 1) + y) c.source.ensures in
     let b2 = means g.M.Medium c.write-2.new.self in
     let u2 = g.M.Medium.wear c.write-2.new.self in
-    let w2 = c.in-ok-more.ensures.answer in
-    let read = c.in-ok-moved.ensures.answer ∙ ap (λ y. fetched b1.lines y) from in
+    let w2 = c.in_ok-more.ensures.answer in
+    let read = c.in_ok-moved.ensures.answer ∙ ap (λ y. fetched b1.lines y) from in
     let pile1 = g.M.Medium.pile c.write.new.self in
-    let read_below = subst (λ y. Served pile1 b1 u1 (Read y ∷ []) pile1 u1) from c.in-ok-moved.ensures.below in
+    let read_below = subst (λ y. Served pile1 b1 u1 (Read y ∷ []) pile1 u1) from c.in_ok-moved.ensures.below in
     record {
       answer =
-          moved_wrote G x.life x.taken (fields x) b b1 i p c.args.value u u1 c.in-ok-toll.toll h k e w1 c.if-row-self.false b2 u2 c.in-ok-more.more c.in-ok-moved.moved read w2
+          moved_wrote G x.life x.taken (fields x) b b1 i p c.args.value u u1 c.in_ok-toll.toll h k e w1 c.if-row-self.false b2 u2 c.in_ok-more.more c.in_ok-moved.moved read w2
           c.advance.new.row c.advance.ensures _ refl;
       below =
-          moved_served G x.life x.taken (fields x) b b1 i p c.args.value u u1 c.in-ok-toll.toll h k e w1 c.if-row-self.false b2 u2 c.in-ok-more.more c.in-ok-moved.moved read w2
-          c.advance.new.row c.advance.ensures (g.M.Medium.pile x.below) pile1 (g.M.Medium.pile c.write-2.new.self) c.in-ok-toll.ensures.below read_below c.in-ok-more.ensures.below;
-      memory = c.in-ok-more.ensures.memory ∙ c.in-ok-toll.ensures.memory;
+          moved_served G x.life x.taken (fields x) b b1 i p c.args.value u u1 c.in_ok-toll.toll h k e w1 c.if-row-self.false b2 u2 c.in_ok-more.more c.in_ok-moved.moved read w2
+          c.advance.new.row c.advance.ensures (g.M.Medium.pile x.below) pile1 (g.M.Medium.pile c.write-2.new.self) c.in_ok-toll.ensures.below read_below c.in_ok-more.ensures.below;
+      memory = c.in_ok-more.ensures.memory ∙ c.in_ok-toll.ensures.memory;
       effect = tt;
     }

@@ -13,4 +13,4 @@ returns-then-line-count g c =
 pub returns : goal.returns
 returns g c =
     let m = c.args.self.now in
-    record { answer = line_read g.K.LineKind.reading g.K.LineKind.width (length m.counts.now) c.args.line m.bytes.now _ _ (omega arith) c.line-at.ensures; below = served_bottom _ _ _ _ }
+    record { answer = line_read g.K.LineKind.reading g.K.LineKind.width (length m.counts.now) c.args.line m.bytes.now _ _ (omega arith) c.line_at.ensures; below = served_bottom _ _ _ _ }

@@ -25,8 +25,8 @@ bounds-self-line g c =
     let k = (line_there g.K.LineKind.reading g.K.LineKind.width (length m.counts.now) c.args.line m.bytes.now h).0 in
     omega (arith, ap length c.store.ensures.rest.2)
 
-pub overflow-add-self : goal.overflow-add-self
-overflow-add-self g c =
+pub overflow_add-self : goal.overflow_add-self
+overflow_add-self g c =
     let m = c.args.self.now in
     let h : c.args.line < length (lines_in g.K.LineKind.reading g.K.LineKind.width (length m.counts.now) m.bytes.now) = omega arith in
     let k = (line_there g.K.LineKind.reading g.K.LineKind.width (length m.counts.now) c.args.line m.bytes.now h).0 in
@@ -41,8 +41,8 @@ bounds-self-line-2 g c =
     let k = (line_there g.K.LineKind.reading g.K.LineKind.width (length m.counts.now) c.args.line m.bytes.now h).0 in
     omega (arith, ap length c.store.ensures.rest.2)
 
-pub invariant-of-self : goal.invariant-of-self
-invariant-of-self g c =
+pub invariant_of-self : goal.invariant_of-self
+invariant_of-self g c =
     let m = c.args.self.now in
     let h : c.args.line < length (lines_in g.K.LineKind.reading g.K.LineKind.width (length m.counts.now) m.bytes.now) = omega arith in
     let k = (line_there g.K.LineKind.reading g.K.LineKind.width (length m.counts.now) c.args.line m.bytes.now h).0 in
@@ -63,19 +63,19 @@ returns g c =
     let w = g.K.LineKind.width in
     let v = c.width-width.result in
     let ys = g.K.LineKind.writing c.args.value in
-    let xs = c.write-to.new.buf in
+    let xs = c.write_to.new.buf in
     let h : i < length (lines_in get w (length cs) bs) = omega arith in
     let s = m.sums in
     let same = c.store.ensures.rest.2 in
     let long = g.met.K.LineKind.long c.args.value in
     let is : xs ≡ ys =
-    let a = c.in-ok-write-to.ensures.answer in let b = c.in-ok-write-to.ensures.after in grind arith in
+    let a = c.in_ok-write_to.ensures.answer in let b = c.in_ok-write_to.ensures.after in grind arith in
     let e : length xs ≡ v = ap length is ∙ long ∙ sym c.width-width.ensures in
     let fits : i * v + length xs ≤ length bs = simp e (line_room get w v (length cs) i bs h c.width-width.ensures) in
     let z = paste_laid i v w bs xs ys _ c.width-width.ensures is long (picked _ _ _ _ _ fits c.store.ensures.bytes) in
     let n = ap (λ (l : List ℕ). set l i (get_or l i 0 + 1)) same in
     record {
-      answer = write_wrote get w bs _ cs _ _ _ i c.args.value ys h (omega arith) n c.store.ensures.rest.0 z long (g.met.K.LineKind.back c.args.value c.in-ok-write-to.ensures.fit);
+      answer = write_wrote get w bs _ cs _ _ _ i c.args.value ys h (omega arith) n c.store.ensures.rest.0 z long (g.met.K.LineKind.back c.args.value c.in_ok-write_to.ensures.fit);
       below = served_bottom _ _ _ _;
       memory = same_two _ _ _ _ c.store.ensures.memory.0 c.store.ensures.memory.1;
       effect = (z, n);

@@ -10,8 +10,8 @@ use Rattle.refresher.specs.Layer.{refresh_survey}
 use Rattle.refresher.proofs.Making.{survey_yes, denied_not_ok, ok_not_denied, count_some, size_again, life_pays, layer_made, layer_unfit, bounded_none}
 use Rattle.refresher.proofs.layer.RefreshLayer.new.Goals as goal
 
-pub returns-then-is-err : goal.returns-then-is-err
-returns-then-is-err g c =
+pub returns-then-is_err : goal.returns-then-is_err
+returns-then-is_err g c =
     let I = c.args.interval in
     let ring = c.args.ring.now in
     let b = means g.M.Medium c.args.below in
@@ -25,12 +25,12 @@ returns-then-is-err g c =
     ∙ ap (λ n. refresh_survey (length ring) I n room) en
     ∙ ap (λ r. refresh_survey (length ring) I (length b.lines) r) er in
     let no : is_err (refresh_survey (length ring) I (length b.lines) (left b)) ≡ true =
-    sym (ap is_err es) ∙ sym c.is-err.ensures.value ∙ c.if-is-err.true in
+    sym (ap is_err es) ∙ sym c.is_err.ensures.value ∙ c.if-is_err.true in
     let w : Round = record { previous = 0; current = 0; turn = 0; pointer = 0 } in
     record { kept = refl; fit = λ e. absurd (denied_not_ok _ no e); unfit = λ d e. layer_unfit b 1 (replicate 16 0) 1 w _ _ }
 
-pub invariant-of-result-2 : goal.invariant-of-result-2
-invariant-of-result-2 g c =
+pub invariant_of-result-2 : goal.invariant_of-result-2
+invariant_of-result-2 g c =
     let I = c.args.interval in
     let ring = c.args.ring.now in
     let b = means g.M.Medium c.args.below in
@@ -44,14 +44,14 @@ invariant-of-result-2 g c =
     ∙ ap (λ n. refresh_survey (length ring) I n room) en
     ∙ ap (λ r. refresh_survey (length ring) I (length b.lines) r) er in
     let yes : is_err (refresh_survey (length ring) I (length b.lines) (left b)) ≡ false =
-    sym (ap is_err es) ∙ sym c.is-err.ensures.value ∙ c.if-is-err.false in
+    sym (ap is_err es) ∙ sym c.is_err.ensures.value ∙ c.if-is_err.false in
     let few = c.count-count.ensures.bound in
     let fits = survey_yes (length ring) I (length b.lines) (left b) yes in
-    let size_is : c.size-for-size.result ≡ greatest_power (length b.lines) = c.size-for-size.ensures.value ∙ ap greatest_power en in
-    let life_is : c.life-for-life.result ≡ life_of I c.size-for-size.result (left b) =
-    c.life-for-life.ensures.value ∙ ap (λ r. life_of I c.size-for-size.result r) er in
+    let size_is : c.size_for-size.result ≡ greatest_power (length b.lines) = c.size_for-size.ensures.value ∙ ap greatest_power en in
+    let life_is : c.life_for-life.result ≡ life_of I c.size_for-size.result (left b) =
+    c.life_for-life.ensures.value ∙ ap (λ r. life_of I c.size_for-size.result r) er in
     let m = length b.lines in
-    let n = c.size-for-size.result in
+    let n = c.size_for-size.result in
     let keys = c.table-keys.result in
     let some = count_some m fits.wide in
     let gp = (greatest_computed m some (omega arith)).within in
@@ -85,14 +85,14 @@ returns g c =
     ∙ ap (λ n. refresh_survey (length ring) I n room) en
     ∙ ap (λ r. refresh_survey (length ring) I (length b.lines) r) er in
     let yes : is_err (refresh_survey (length ring) I (length b.lines) (left b)) ≡ false =
-    sym (ap is_err es) ∙ sym c.is-err.ensures.value ∙ c.if-is-err.false in
+    sym (ap is_err es) ∙ sym c.is_err.ensures.value ∙ c.if-is_err.false in
     let few = c.count-count.ensures.bound in
     let fits = survey_yes (length ring) I (length b.lines) (left b) yes in
-    let size_is : c.size-for-size.result ≡ greatest_power (length b.lines) = c.size-for-size.ensures.value ∙ ap greatest_power en in
-    let life_is : c.life-for-life.result ≡ life_of I c.size-for-size.result (left b) =
-    c.life-for-life.ensures.value ∙ ap (λ r. life_of I c.size-for-size.result r) er in
+    let size_is : c.size_for-size.result ≡ greatest_power (length b.lines) = c.size_for-size.ensures.value ∙ ap greatest_power en in
+    let life_is : c.life_for-life.result ≡ life_of I c.size_for-size.result (left b) =
+    c.life_for-life.ensures.value ∙ ap (λ r. life_of I c.size_for-size.result r) er in
     record {
       kept = refl;
-      fit = λ e. layer_made b c.size-for-size.result I c.life-for-life.result c.table-keys.result ring _ _ (omega arith) (omega arith) fits c.table-keys.ensures.keys size_is life_is;
+      fit = λ e. layer_made b c.size_for-size.result I c.life_for-life.result c.table-keys.result ring _ _ (omega arith) (omega arith) fits c.table-keys.ensures.keys size_is life_is;
       unfit = λ d e. absurd (ok_not_denied _ d yes e);
     }

@@ -16,8 +16,8 @@ returns-then-line-count g c = record { answer = wrote_denied _ _ _ _ _ _ _ (deni
 pub returns-then-self-life : goal.returns-then-self-life
 returns-then-self-life g c = record { answer = wrote_denied _ _ _ _ _ _ _ (denies_life _ _ _ (omega arith) (omega arith)) refl refl; below = layer_denied _ _ _ _ _ _ _ _ (denies_life _ _ _ (omega arith) (omega arith)); memory = refl; effect = tt }
 
-pub returns-in-err-toll : goal.returns-in-err-toll
-returns-in-err-toll g c =
+pub returns-in_err-toll : goal.returns-in_err-toll
+returns-in_err-toll g c =
     let x = c.args.self.now in
     let b = means g.M.Medium x.below in
     let i = c.args.line in
@@ -26,10 +26,10 @@ returns-in-err-toll g c =
     let l : x.taken < refresh_life (registers_in x) x.life x.taken b = omega arith in
     let some = line_size held b i h in
     let tl = line_lives held b i h l in
-    absurd (never _ _ (line_accepts held b i h l c.place.result c.args.value c.place.ensures.value) c.in-err-toll.ensures.answer.answer.0)
+    absurd (never _ _ (line_accepts held b i h l c.place.result c.args.value c.place.ensures.value) c.in_err-toll.ensures.answer.answer.0)
 
-pub invariant-of-self-then-self : goal.invariant-of-self-then-self
-invariant-of-self-then-self g c =
+pub invariant_of-self-then-self : goal.invariant_of-self-then-self
+invariant_of-self-then-self g c =
     let x = c.args.self.now in
     let b = means g.M.Medium x.below in
     let i = c.args.line in
@@ -53,12 +53,12 @@ returns-then-self g c =
     let l : x.taken < refresh_life (registers_in x) x.life x.taken b = omega arith in
     let some = line_size held b i h in
     let tl = line_lives held b i h l in
-    let w1 = c.in-ok-toll.ensures.answer in
+    let w1 = c.in_ok-toll.ensures.answer in
     let ep = c.place.ensures.value in
     record {
       answer = noted_wrote held w1 h l ep;
-      below = noted_served held w1 h l ep _ _ c.if-self.true c.in-ok-toll.ensures.below;
-      memory = c.in-ok-toll.ensures.memory;
+      below = noted_served held w1 h l ep _ _ c.if-self.true c.in_ok-toll.ensures.below;
+      memory = c.in_ok-toll.ensures.memory;
       effect = tt;
     }
 
@@ -77,8 +77,8 @@ next-after-requires g c =
     let z = x.short in
     simp (sub-zero x.ring) (record { sound = s; few = omega arith })
 
-pub invariant-of-self-then-mate-round : goal.invariant-of-self-then-mate-round
-invariant-of-self-then-mate-round g c =
+pub invariant_of-self-then-mate-round : goal.invariant_of-self-then-mate-round
+invariant_of-self-then-mate-round g c =
     let x = c.args.self.now in
     let b = means g.M.Medium x.below in
     let i = c.args.line in
@@ -105,20 +105,20 @@ returns-then-mate-round g c =
     let l : x.taken < refresh_life (registers_in x) x.life x.taken b = omega arith in
     let some = line_size held b i h in
     let tl = line_lives held b i h l in
-    let w1 = c.in-ok-toll.ensures.answer in
+    let w1 = c.in_ok-toll.ensures.answer in
     let ep = c.place.ensures.value in
     let d : x.interval ≤ x.due + 1 = c.if-self.false in
     let ew : c.next-after.result ≡ refreshed x.size (take x.ring x.keys) x.round = c.next-after.ensures.after ∙ ap (λ n. refreshed x.size (take n x.keys) x.round) (sub-zero x.ring) in
     let m : pointer_mate x.round ≤ x.round.pointer = c.if-mate-round.true in
     record {
       answer = unexchanged_wrote held w1 h l ep c.next-after.result ew m;
-      below = unexchanged_served held w1 h l ep _ _ c.next-after.result ew d m c.in-ok-toll.ensures.below;
-      memory = c.in-ok-toll.ensures.memory;
+      below = unexchanged_served held w1 h l ep _ _ c.next-after.result ew d m c.in_ok-toll.ensures.below;
+      memory = c.in_ok-toll.ensures.memory;
       effect = tt;
     }
 
-pub returns-in-err-mated : goal.returns-in-err-mated
-returns-in-err-mated g c =
+pub returns-in_err-mated : goal.returns-in_err-mated
+returns-in_err-mated g c =
     let x = c.args.self.now in
     let b = means g.M.Medium x.below in
     let i = c.args.line in
@@ -127,12 +127,12 @@ returns-in-err-mated g c =
     let l : x.taken < refresh_life (registers_in x) x.life x.taken b = omega arith in
     let some = line_size held b i h in
     let tl = line_lives held b i h l in
-    let w1 = c.in-ok-toll.ensures.answer in
+    let w1 = c.in_ok-toll.ensures.answer in
     let ep = c.place.ensures.value in
-    absurd (fetched_never _ (current_place x.round) _ (current_in held w1 h l ep) c.in-err-mated.ensures.answer)
+    absurd (fetched_never _ (current_place x.round) _ (current_in held w1 h l ep) c.in_err-mated.ensures.answer)
 
-pub returns-in-err-moved : goal.returns-in-err-moved
-returns-in-err-moved g c =
+pub returns-in_err-moved : goal.returns-in_err-moved
+returns-in_err-moved g c =
     let x = c.args.self.now in
     let b = means g.M.Medium x.below in
     let i = c.args.line in
@@ -141,12 +141,12 @@ returns-in-err-moved g c =
     let l : x.taken < refresh_life (registers_in x) x.life x.taken b = omega arith in
     let some = line_size held b i h in
     let tl = line_lives held b i h l in
-    let w1 = c.in-ok-toll.ensures.answer in
+    let w1 = c.in_ok-toll.ensures.answer in
     let ep = c.place.ensures.value in
-    absurd (fetched_never _ (previous_place x.round) _ (previous_in held w1 h l ep) c.in-err-moved.ensures.answer)
+    absurd (fetched_never _ (previous_place x.round) _ (previous_in held w1 h l ep) c.in_err-moved.ensures.answer)
 
-pub returns-in-err-first : goal.returns-in-err-first
-returns-in-err-first g c =
+pub returns-in_err-first : goal.returns-in_err-first
+returns-in_err-first g c =
     let x = c.args.self.now in
     let b = means g.M.Medium x.below in
     let i = c.args.line in
@@ -155,33 +155,33 @@ returns-in-err-first g c =
     let l : x.taken < refresh_life (registers_in x) x.life x.taken b = omega arith in
     let some = line_size held b i h in
     let tl = line_lives held b i h l in
-    let w1 = c.in-ok-toll.ensures.answer in
-    let ep = c.place.ensures.value in
-    let d : x.interval ≤ x.due + 1 = c.if-self.false in
-    let m : x.round.pointer < pointer_mate x.round = c.if-mate-round.false in
-    absurd (never _ _ (first_accepts held w1 h l ep d m c.in-ok-mated.mated) c.in-err-first.ensures.answer.answer.0)
-
-pub returns-in-err-second : goal.returns-in-err-second
-returns-in-err-second g c =
-    let x = c.args.self.now in
-    let b = means g.M.Medium x.below in
-    let i = c.args.line in
-    let held = held_of x in
-    let h : i < length (refresh_lines (registers_in x) b) = omega arith in
-    let l : x.taken < refresh_life (registers_in x) x.life x.taken b = omega arith in
-    let some = line_size held b i h in
-    let tl = line_lives held b i h l in
-    let w1 = c.in-ok-toll.ensures.answer in
+    let w1 = c.in_ok-toll.ensures.answer in
     let ep = c.place.ensures.value in
     let d : x.interval ≤ x.due + 1 = c.if-self.false in
     let m : x.round.pointer < pointer_mate x.round = c.if-mate-round.false in
-    let ex = c.in-ok-mated.ensures.answer in
-    let ey = c.in-ok-moved.ensures.answer in
-    let w2 = c.in-ok-first.ensures.answer in
-    absurd (never _ _ (second_accepts held w1 h l ep d m ex ey w2) c.in-err-second.ensures.answer.answer.0)
+    absurd (never _ _ (first_accepts held w1 h l ep d m c.in_ok-mated.mated) c.in_err-first.ensures.answer.answer.0)
 
-pub overflow-add-self-2 : goal.overflow-add-self-2
-overflow-add-self-2 g c =
+pub returns-in_err-second : goal.returns-in_err-second
+returns-in_err-second g c =
+    let x = c.args.self.now in
+    let b = means g.M.Medium x.below in
+    let i = c.args.line in
+    let held = held_of x in
+    let h : i < length (refresh_lines (registers_in x) b) = omega arith in
+    let l : x.taken < refresh_life (registers_in x) x.life x.taken b = omega arith in
+    let some = line_size held b i h in
+    let tl = line_lives held b i h l in
+    let w1 = c.in_ok-toll.ensures.answer in
+    let ep = c.place.ensures.value in
+    let d : x.interval ≤ x.due + 1 = c.if-self.false in
+    let m : x.round.pointer < pointer_mate x.round = c.if-mate-round.false in
+    let ex = c.in_ok-mated.ensures.answer in
+    let ey = c.in_ok-moved.ensures.answer in
+    let w2 = c.in_ok-first.ensures.answer in
+    absurd (never _ _ (second_accepts held w1 h l ep d m ex ey w2) c.in_err-second.ensures.answer.answer.0)
+
+pub overflow_add-self-2 : goal.overflow_add-self-2
+overflow_add-self-2 g c =
     let x = c.args.self.now in
     let b = means g.M.Medium x.below in
     let i = c.args.line in
@@ -196,8 +196,8 @@ overflow-add-self-2 g c =
     let z = x.room in
     omega arith
 
-pub invariant-of-self-2 : goal.invariant-of-self-2
-invariant-of-self-2 g c =
+pub invariant_of-self-2 : goal.invariant_of-self-2
+invariant_of-self-2 g c =
     let x = c.args.self.now in
     let b = means g.M.Medium x.below in
     let i = c.args.line in
@@ -224,18 +224,18 @@ returns g c =
     let l : x.taken < refresh_life (registers_in x) x.life x.taken b = omega arith in
     let some = line_size held b i h in
     let tl = line_lives held b i h l in
-    let w1 = c.in-ok-toll.ensures.answer in
+    let w1 = c.in_ok-toll.ensures.answer in
     let ep = c.place.ensures.value in
     let d : x.interval ≤ x.due + 1 = c.if-self.false in
     let ew : c.next-after.result ≡ refreshed x.size (take x.ring x.keys) x.round = c.next-after.ensures.after ∙ ap (λ n. refreshed x.size (take n x.keys) x.round) (sub-zero x.ring) in
     let m : x.round.pointer < pointer_mate x.round = c.if-mate-round.false in
-    let ex = c.in-ok-mated.ensures.answer in
-    let ey = c.in-ok-moved.ensures.answer in
-    let w2 = c.in-ok-first.ensures.answer in
-    let w3 = c.in-ok-second.ensures.answer in
+    let ex = c.in_ok-mated.ensures.answer in
+    let ey = c.in_ok-moved.ensures.answer in
+    let w2 = c.in_ok-first.ensures.answer in
+    let w3 = c.in_ok-second.ensures.answer in
     record {
       answer = exchanged_wrote held w1 h l ep d m ex ey w2 w3 c.next-after.result _ ew refl;
-      below = exchanged_served held w1 h l ep d m ex ey w2 w3 _ _ _ _ c.next-after.result ew c.in-ok-toll.ensures.below c.in-ok-mated.ensures.below c.in-ok-moved.ensures.below c.in-ok-first.ensures.below c.in-ok-second.ensures.below;
-      memory = c.in-ok-second.ensures.memory ∙ c.in-ok-first.ensures.memory ∙ c.in-ok-toll.ensures.memory;
+      below = exchanged_served held w1 h l ep d m ex ey w2 w3 _ _ _ _ c.next-after.result ew c.in_ok-toll.ensures.below c.in_ok-mated.ensures.below c.in_ok-moved.ensures.below c.in_ok-first.ensures.below c.in_ok-second.ensures.below;
+      memory = c.in_ok-second.ensures.memory ∙ c.in_ok-first.ensures.memory ∙ c.in_ok-toll.ensures.memory;
       effect = tt;
     }

@@ -9,8 +9,8 @@ use Rattle.scatter.proofs.layer.ScatterLayer.new.Goals as goal
 same_survey : (s s' c c' l l' : ℕ) → s ≡ s' → c ≡ c' → l ≡ l' → scatter_survey s c l ≡ scatter_survey s' c' l'
 same_survey s s' c c' l l' a b d = cc
 
-pub returns-then-is-err : goal.returns-then-is-err
-returns-then-is-err g c =
+pub returns-then-is_err : goal.returns-then-is_err
+returns-then-is_err g c =
     let b = means g.M.Medium c.args.below in
     let span = g.S.Shuffle.span c.args.shuffle in
     let la : c.life.result ≡ b.life = c.life.ensures.answer in
@@ -18,7 +18,7 @@ returns-then-is-err g c =
     let le : c.life.result - c.taken.result ≡ left b = ap (λ (x : ℕ). x - c.taken.result) la ∙ ap (λ (x : ℕ). b.life - x) ta in
     let survey = same_survey _ _ _ _ _ _ c.span.ensures.answer c.count.ensures.answer le in
     let no : is_err (scatter_survey span (length b.lines) (left b)) ≡ true =
-    sym (ap is_err (c.survey.ensures.answer ∙ survey)) ∙ sym c.is-err.ensures.value ∙ c.if-is-err.true in
+    sym (ap is_err (c.survey.ensures.answer ∙ survey)) ∙ sym c.is_err.ensures.value ∙ c.if-is_err.true in
     record {
       kept = (refl, refl);
       made = made_unfit (scatter_survey span (length b.lines) (left b)) _ _ b _ _ _ _ _ no refl (unfit_means 0 0 (0 + (b.life - b.taken)) (g.S.Shuffle.forward c.args.shuffle) b.lines) refl;
@@ -33,7 +33,7 @@ returns g c =
     let le : c.life.result - c.taken.result ≡ left b = ap (λ (x : ℕ). x - c.taken.result) la ∙ ap (λ (x : ℕ). b.life - x) ta in
     let survey = same_survey _ _ _ _ _ _ c.span.ensures.answer c.count.ensures.answer le in
     let yes : is_err (scatter_survey span (length b.lines) (left b)) ≡ false =
-    sym (ap is_err (c.survey.ensures.answer ∙ survey)) ∙ sym c.is-err.ensures.value ∙ c.if-is-err.false in
+    sym (ap is_err (c.survey.ensures.answer ∙ survey)) ∙ sym c.is_err.ensures.value ∙ c.if-is_err.false in
     record {
       kept = (refl, refl);
       made = made_fit (scatter_survey span (length b.lines) (left b)) _ b _ _ _ _ _ yes refl (scatter_new span _ (g.met.S.Shuffle.stays c.args.shuffle) b _ yes le) refl;

@@ -15,8 +15,8 @@ pub returns-then-self-life : goal.returns-then-self-life
 returns-then-self-life g c =
     record { answer = wrote_denied _ _ _ _ _ _ _ (denies_life _ _ _ (omega arith) (omega arith)) refl refl; below = layer_denied _ _ _ _ _ _ _ _ (denies_life _ _ _ (omega arith) (omega arith)); memory = refl; effect = tt }
 
-pub returns-in-err-toll : goal.returns-in-err-toll
-returns-in-err-toll g c =
+pub returns-in_err-toll : goal.returns-in_err-toll
+returns-in_err-toll g c =
     let x = c.args.self.now in
     let sh = x.shuffle in
     let n = scatter_size x.fit (g.S.Shuffle.span sh) in
@@ -27,10 +27,10 @@ returns-in-err-toll g c =
     let b = means g.M.Medium x.below in
     let h : c.args.line < length (placed_lines n n f b.lines) = omega arith in
     let k : x.taken < paid_life x.life x.taken x.life (x.taken + (b.life - b.taken)) = omega arith in
-    absurd (never _ _ (scatter_grants n f back stays undone b x.life x.taken c.args.line c.forward.result c.args.value h k c.forward.ensures.answer) c.in-err-toll.ensures.answer.answer.0)
+    absurd (never _ _ (scatter_grants n f back stays undone b x.life x.taken c.args.line c.forward.result c.args.value h k c.forward.ensures.answer) c.in_err-toll.ensures.answer.answer.0)
 
-pub invariant-of-self-2 : goal.invariant-of-self-2
-invariant-of-self-2 g c =
+pub invariant_of-self-2 : goal.invariant_of-self-2
+invariant_of-self-2 g c =
     let x = c.args.self.now in
     let sh = x.shuffle in
     let n = scatter_size x.fit (g.S.Shuffle.span sh) in
@@ -58,7 +58,7 @@ returns g c =
     let h : c.args.line < length (placed_lines n n f b.lines) = omega arith in
     let k : x.taken < paid_life x.life x.taken x.life (x.taken + (b.life - b.taken)) = omega arith in
     let b' = means g.M.Medium c.write.new.self in
-    let w = c.in-ok-toll.ensures in
+    let w = c.in_ok-toll.ensures in
     record {
       answer = scatter_wrote n f back stays undone b b' _ _ x.life x.taken c.args.line c.forward.result c.args.value _ h k c.forward.ensures.answer w.answer;
       below = scatter_served_write n f back stays undone b b' _ _ _ _ x.taken _ c.args.line c.forward.result c.args.value _ h k c.forward.ensures.answer w.answer w.below;

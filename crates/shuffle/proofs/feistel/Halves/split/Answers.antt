@@ -4,5 +4,5 @@ use Rattle.shuffle.proofs.feistel.Halves.split.Goals as goal
 
 pub returns : goal.returns
 returns c =
-    let s = split_is c.args.n c.args.number c.half-size-size.result c.half-size-size.ensures.value c.requires.within in
+    let s = split_is c.args.n c.args.number c.half_size-size.result c.half_size-size.ensures.value c.requires.within in
     record { value = s.0; within = s.1 }

@@ -8,5 +8,5 @@ use Rattle.shuffle.proofs.feistel.Halves.unstage.Goals as goal
 
 pub returns : goal.returns
 returns c =
-    let s = unstage_is (round c.args.n c.args.key) c.args.n (round_narrow c.args.n c.args.key) c.args.self c.round-of.result c.round-of.ensures.value c.requires.within in
+    let s = unstage_is (round c.args.n c.args.key) c.args.n (round_narrow c.args.n c.args.key) c.args.self c.round_of.result c.round_of.ensures.value c.requires.within in
     record { value = s.0; within = s.1 }
