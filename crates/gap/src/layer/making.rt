@@ -1,14 +1,12 @@
 //! The making of a layer of gap regions, and the survey before it. It stands apart from the struct so that its contract can cite what the layer means.
 
 ghost use Rattle.std.specs.Prelude.{◌≡◌, length, Ok, Err};
-ghost use mir.Syntax.{given};
 ghost use Rattle.line.specs.declared.denial.Denial.{Denial as Denied};
 ghost use Rattle.startgap.specs.Regions.{new_gaps, region_size};
 ghost use Rattle.medium.specs.Law.{left};
 ghost use Rattle.medium.specs.Meaning.{means};
 ghost use Rattle.gap.specs.Fields.{registers_of};
 ghost use Rattle.gap.specs.Regions.{gap_survey, Made, MadeUnfit};
-ghost use Rattle.gap.specs.contracts.layer.GapLayerMedium.TheImpl.{ghosts as members};
 
 use crate::layer::GapLayer;
 use line::denial::Denial;
@@ -39,8 +37,8 @@ impl<M: Medium> GapLayer<M> {
     /// Where the survey says no, it has no lines and life 0.
     pub fn new(below: M, regions: u16, interval: u16) -> GapLayer<M>
         ensures kept { result.below ≡ below }
-        ensures fit { gap_survey regions interval (length (M.Medium.lines below)) (left (means M.Medium below)) ≡ Ok tt → Made (new_gaps regions (region_size (length (M.Medium.lines below)) regions) interval) (means (members M.row M.Line.row M.Medium (given 0)) result) ((members M.row M.Line.row M.Medium (given 0)).wear result) ((members M.row M.Line.row M.Medium (given 0)).pile result) (means M.Medium below) (M.Medium.wear below) (M.Medium.pile below) }
-        ensures unfit { (d : Denied) → gap_survey regions interval (length (M.Medium.lines below)) (left (means M.Medium below)) ≡ Err d → MadeUnfit (registers_of result) (means (members M.row M.Line.row M.Medium (given 0)) result) ((members M.row M.Line.row M.Medium (given 0)).wear result) ((members M.row M.Line.row M.Medium (given 0)).pile result) (means M.Medium below) (M.Medium.wear below) (M.Medium.pile below) }
+        ensures fit { gap_survey regions interval (length (M.Medium.lines below)) (left (means M.Medium below)) ≡ Ok tt → Made (new_gaps regions (region_size (length (M.Medium.lines below)) regions) interval) (means ⟦<GapLayer<M> as Medium>⟧ result) (⟦<GapLayer<M> as Medium>⟧.wear result) (⟦<GapLayer<M> as Medium>⟧.pile result) (means M.Medium below) (M.Medium.wear below) (M.Medium.pile below) }
+        ensures unfit { (d : Denied) → gap_survey regions interval (length (M.Medium.lines below)) (left (means M.Medium below)) ≡ Err d → MadeUnfit (registers_of result) (means ⟦<GapLayer<M> as Medium>⟧ result) (⟦<GapLayer<M> as Medium>⟧.wear result) (⟦<GapLayer<M> as Medium>⟧.pile result) (means M.Medium below) (M.Medium.wear below) (M.Medium.pile below) }
     {
         let count = below.count();
         let left = below.life() - below.taken();

@@ -1,10 +1,8 @@
 //! Where the lines of a layer are, and its count of copies.
 
 ghost use Rattle.std.specs.Prelude.{◌≡◌, length};
-ghost use mir.Syntax.{given};
 ghost use Rattle.gap.specs.Fields.{registers_of};
 ghost use Rattle.gap.specs.Regions.{place_answer, holder_answer};
-ghost use Rattle.gap.specs.contracts.layer.GapLayerMedium.TheImpl.{ghosts as members};
 
 use crate::layer::{GapLayer, holder_in_row, split};
 use line::denial::Denial;
@@ -13,7 +11,7 @@ use medium::medium::Medium;
 impl<M: Medium> GapLayer<M> {
     /// The place below of a line. A number not below the layer's count is denied with 1.
     pub fn where_is(&self, line: u16) -> Result<u16, Denial>
-        ensures answer { result ≡ place_answer (registers_of self.now) (length ((members M.row M.Line.row M.Medium (given 0)).lines self.now)) line }
+        ensures answer { result ≡ place_answer (registers_of self.now) (length (⟦<GapLayer<M> as Medium>⟧.lines self.now)) line }
     {
         if line >= self.count() {
             return Err(Denial::NoSuchLine);

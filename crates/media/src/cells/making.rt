@@ -4,9 +4,9 @@ ghost use Rattle.std.specs.Prelude.{◌≡◌, [], length, Ok, Err};
 ghost use Rattle.line.specs.declared.denial.Denial.{Denial as Denied};
 ghost use Rattle.medium.specs.Meaning.{means};
 ghost use Rattle.media.specs.Cells.{cell_survey, cell_array, MadeAs};
-ghost use Rattle.media.specs.contracts.cells.CellMediumMedium.TheImpl.{ghosts as members};
 
 use crate::cells::{CellMedium, survey};
+use medium::medium::Medium;
 
 impl<'a, V: Copy> CellMedium<'a, V> {
     /// A medium of the values in `cells`, none of its life used.
@@ -14,7 +14,7 @@ impl<'a, V: Copy> CellMedium<'a, V> {
     pub fn new(cells: &'a mut [V], life: u64) -> CellMedium<'a, V>
         ensures fit { cell_survey (length cells.old) life ≡ Ok tt → (result.cells.now ≡ cells.old) × (result.cells.ghost_name ≡ cells.entry.ghost_name) × (result.life ≡ life) × (result.taken ≡ 0) }
         ensures unfit { (d : Denied) → cell_survey (length cells.old) life ≡ Err d → (result.cells.now ≡ []) × (result.life ≡ 0) × (result.taken ≡ 0) }
-        ensures means { MadeAs (cell_survey (length cells.old) life) (cell_array cells.old 0 life) (means (members V.row) result) ((members V.row).wear result) }
+        ensures means { MadeAs (cell_survey (length cells.old) life) (cell_array cells.old 0 life) (means ⟦<CellMedium<'a, V> as Medium>⟧ result) (⟦<CellMedium<'a, V> as Medium>⟧.wear result) }
     {
         if survey(cells.len(), life).is_err() {
             return CellMedium {

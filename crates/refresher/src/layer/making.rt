@@ -1,14 +1,12 @@
 //! The making of a refresh layer. It stands apart from the struct so that its contract can cite what the layer means.
 
 ghost use Rattle.std.specs.Prelude.{◌≡◌, ◌≤◌, length, take, Ok, Err};
-ghost use mir.Syntax.{given};
 ghost use Rattle.line.specs.declared.denial.Denial.{Denial as Denied};
 ghost use Rattle.refresh.specs.Powers.{greatest_power};
 ghost use Rattle.refresh.specs.Refresh.{new_registers};
 ghost use Rattle.medium.specs.Law.{left as left-of};
 ghost use Rattle.medium.specs.Meaning.{means};
 ghost use Rattle.refresher.specs.Layer.{registers, refresh_survey, Made, MadeUnfit};
-ghost use Rattle.refresher.specs.contracts.layer.RefreshLayerMedium.TheImpl.{ghosts as members};
 
 use crate::layer::{RefreshLayer, survey};
 use crate::registers::{life_for, size_for};
@@ -32,8 +30,8 @@ impl<M: Medium> RefreshLayer<M> {
     /// Where the survey says no, it has no lines and life 0.
     pub fn new(below: M, ring: &[u16], interval: u16) -> RefreshLayer<M>
         ensures kept { result.below ≡ below }
-        ensures fit { refresh_survey (length ring.now) interval (length (M.Medium.lines below)) (left-of (means M.Medium below)) ≡ Ok tt → Made (new_registers (greatest_power (length (M.Medium.lines below))) interval ring.now) (means (members M.row M.Line.row M.Medium (given 0)) result) (means M.Medium below) ((members M.row M.Line.row M.Medium (given 0)).wear result) (M.Medium.wear below) ((members M.row M.Line.row M.Medium (given 0)).pile result) (M.Medium.pile below) }
-        ensures unfit { (d : Denied) → refresh_survey (length ring.now) interval (length (M.Medium.lines below)) (left-of (means M.Medium below)) ≡ Err d → MadeUnfit (registers result.size result.interval result.keys result.ring result.round result.due result.copies) (means (members M.row M.Line.row M.Medium (given 0)) result) (means M.Medium below) ((members M.row M.Line.row M.Medium (given 0)).wear result) (M.Medium.wear below) ((members M.row M.Line.row M.Medium (given 0)).pile result) (M.Medium.pile below) }
+        ensures fit { refresh_survey (length ring.now) interval (length (M.Medium.lines below)) (left-of (means M.Medium below)) ≡ Ok tt → Made (new_registers (greatest_power (length (M.Medium.lines below))) interval ring.now) (means ⟦<RefreshLayer<M> as Medium>⟧ result) (means M.Medium below) (⟦<RefreshLayer<M> as Medium>⟧.wear result) (M.Medium.wear below) (⟦<RefreshLayer<M> as Medium>⟧.pile result) (M.Medium.pile below) }
+        ensures unfit { (d : Denied) → refresh_survey (length ring.now) interval (length (M.Medium.lines below)) (left-of (means M.Medium below)) ≡ Err d → MadeUnfit (registers result.size result.interval result.keys result.ring result.round result.due result.copies) (means ⟦<RefreshLayer<M> as Medium>⟧ result) (means M.Medium below) (⟦<RefreshLayer<M> as Medium>⟧.wear result) (M.Medium.wear below) (⟦<RefreshLayer<M> as Medium>⟧.pile result) (M.Medium.pile below) }
     {
         let count = below.count();
         let left = below.life() - below.taken();

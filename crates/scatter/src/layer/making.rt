@@ -2,14 +2,12 @@
 //! can cite what the layer means.
 
 ghost use Rattle.std.specs.Prelude.{◌≡◌, length, IfOk};
-ghost use mir.Syntax.{given};
 ghost use Rattle.medium.specs.Array.{fetched};
 ghost use Rattle.medium.specs.Law.{left, MadeOver};
 ghost use Rattle.medium.specs.Meaning.{means};
 ghost use Rattle.medium.specs.Pile.{scatter};
 ghost use Rattle.medium.specs.Pile.{made_by};
 ghost use Rattle.scatter.specs.Scatters.{scatter_survey, scatter_place, scatter_holder};
-ghost use Rattle.scatter.specs.contracts.layer.ScatterLayerMedium.TheImpl.{ghosts as members};
 
 use crate::layer::ScatterLayer;
 use line::denial::Denial;
@@ -33,7 +31,7 @@ impl<S: Shuffle, M: Medium> ScatterLayer<S, M> {
     /// A scatter over `below`, whose life is what is left there. Where the survey says no, it has no lines and life 0.
     pub fn new(shuffle: S, below: M) -> ScatterLayer<S, M>
         ensures kept { (result.shuffle ≡ shuffle) × (result.below ≡ below) }
-        ensures made { MadeOver (scatter_survey (S.Shuffle.span shuffle) (length (M.Medium.lines below)) (left (means M.Medium below))) (scatter (S.Shuffle.span shuffle) (S.Shuffle.forward shuffle)) (means M.Medium below) (M.Medium.wear below) (M.Medium.pile below) ((members S.row M.row M.Line.row S.Shuffle (given 0) M.Medium (given 1)).pile result) (means (members S.row M.row M.Line.row S.Shuffle (given 0) M.Medium (given 1)) result) ((members S.row M.row M.Line.row S.Shuffle (given 0) M.Medium (given 1)).wear result) }
+        ensures made { MadeOver (scatter_survey (S.Shuffle.span shuffle) (length (M.Medium.lines below)) (left (means M.Medium below))) (scatter (S.Shuffle.span shuffle) (S.Shuffle.forward shuffle)) (means M.Medium below) (M.Medium.wear below) (M.Medium.pile below) (⟦<ScatterLayer<S, M> as Medium>⟧.pile result) (means ⟦<ScatterLayer<S, M> as Medium>⟧ result) (⟦<ScatterLayer<S, M> as Medium>⟧.wear result) }
     {
         let left = below.life() - below.taken();
         if survey(shuffle.span(), below.count(), left).is_err() {
@@ -56,8 +54,8 @@ impl<S: Shuffle, M: Medium> ScatterLayer<S, M> {
 
     /// The place of a line in what lies below. A line that is not below the count is denied with 1.
     pub fn where_is(&self, line: u16) -> Result<u16, Denial>
-        ensures answer { result ≡ scatter_place (length ((members S.row M.row M.Line.row S.Shuffle (given 0) M.Medium (given 1)).lines self.now)) (S.Shuffle.forward self.now.shuffle) line }
-        ensures content { IfOk result (λ p. fetched (M.Medium.lines self.now.below) p ≡ fetched ((members S.row M.row M.Line.row S.Shuffle (given 0) M.Medium (given 1)).lines self.now) line) }
+        ensures answer { result ≡ scatter_place (length (⟦<ScatterLayer<S, M> as Medium>⟧.lines self.now)) (S.Shuffle.forward self.now.shuffle) line }
+        ensures content { IfOk result (λ p. fetched (M.Medium.lines self.now.below) p ≡ fetched (⟦<ScatterLayer<S, M> as Medium>⟧.lines self.now) line) }
     {
         if line >= self.count() {
             return Err(Denial::NoSuchLine);
@@ -67,7 +65,7 @@ impl<S: Shuffle, M: Medium> ScatterLayer<S, M> {
 
     /// The line at a place of what lies below, or none at a place past the span. A place that is not below the count below is denied with 1.
     pub fn holder(&self, place: u16) -> Result<Option<u16>, Denial>
-        ensures answer { result ≡ scatter_holder (length (M.Medium.lines self.now.below)) (length ((members S.row M.row M.Line.row S.Shuffle (given 0) M.Medium (given 1)).lines self.now)) (S.Shuffle.back self.now.shuffle) place }
+        ensures answer { result ≡ scatter_holder (length (M.Medium.lines self.now.below)) (length (⟦<ScatterLayer<S, M> as Medium>⟧.lines self.now)) (S.Shuffle.back self.now.shuffle) place }
     {
         if place >= self.below.count() {
             return Err(Denial::NoSuchLine);
@@ -80,7 +78,7 @@ impl<S: Shuffle, M: Medium> ScatterLayer<S, M> {
 
     /// How many copies this layer has made: none, ever.
     pub fn copies(&self) -> u32
-        ensures answer { result ≡ made_by ((members S.row M.row M.Line.row S.Shuffle (given 0) M.Medium (given 1)).pile self.now) }
+        ensures answer { result ≡ made_by (⟦<ScatterLayer<S, M> as Medium>⟧.pile self.now) }
     {
         0
     }

@@ -38,31 +38,19 @@ invariant_of-result-2 g c =
     let s0 = s.0 in
     let s1 = s.1 in
     let less = div-le_self n R in
-    let none : total_due (replicate 16 w) ≡ 0 = refl in (
-      omega arith,
-      (
-        few,
-        (
-          s0,
-          (
-            omega arith,
-            (
-              omega arith,
-              (
-                omega arith,
-                (
-                  each_row (λ r. r.start < K) w s0 s0 16,
-                  (
-                    each_row (λ r. r.gap ≤ K) w (omega arith) (omega arith) 16,
-                    (each_row (λ r. r.due < c.args.interval) w paced paced 16, (omega arith, tt)),
-                  ),
-                ),
-              ),
-            ),
-          ),
-        ),
-      ),
-    )
+    let none : total_due (replicate 16 w) ≡ 0 = refl in
+    record {
+      within = omega arith;
+      few = few;
+      sized = s0;
+      small = omega arith;
+      inside = omega arith;
+      enough = omega arith;
+      starts = each_row (λ r. r.start < K) w s0 s0 16;
+      holes = each_row (λ r. r.gap ≤ K) w (omega arith) (omega arith) 16;
+      dues = each_row (λ r. r.due < c.args.interval) w paced paced 16;
+      counted = omega arith;
+    }
 
 pub returns : goal.returns
 returns g c =

@@ -102,7 +102,18 @@ invariant_of-self-then-row-self g c =
     let hi = (line_there G x.life x.taken (fields x) b i h).0 in
     let tl = (write_paid G x.life x.taken (fields x) b k).0 in
     let q = held_counted G x.life x.taken (fields x) i hi tl c.count_write.new.row c.count_write.ensures c.if-row-self.true in
-    (q.within, (x.few, (x.sized, (x.small, (x.inside, (q.enough, (q.starts, (q.holes, (q.dues, (q.counted, tt))))))))))
+    record {
+      within = q.within;
+      few = x.few;
+      sized = x.sized;
+      small = x.small;
+      inside = x.inside;
+      enough = q.enough;
+      starts = q.starts;
+      holes = q.holes;
+      dues = q.dues;
+      counted = q.counted;
+    }
 
 pub returns-then-row-self : goal.returns-then-row-self
 returns-then-row-self g c =
@@ -213,7 +224,18 @@ invariant_of-self-2 g c =
     let hi = (line_there G x.life x.taken (fields x) b i h).0 in
     let tl = (write_paid G x.life x.taken (fields x) b k).0 in
     let q = held_moved G x.life x.taken (fields x) i hi tl c.advance.new.row c.advance.ensures c.if-row-self.false in
-    (q.within, (x.few, (x.sized, (x.small, (x.inside, (q.enough, (q.starts, (q.holes, (q.dues, (q.counted, tt))))))))))
+    record {
+      within = q.within;
+      few = x.few;
+      sized = x.sized;
+      small = x.small;
+      inside = x.inside;
+      enough = q.enough;
+      starts = q.starts;
+      holes = q.holes;
+      dues = q.dues;
+      counted = q.counted;
+    }
 
 pub returns : goal.returns
 returns g c =

@@ -22,4 +22,8 @@ invariant_of-result-2 g c =
     let f = survey_few g.K.LineKind.width n c.args.life (length c.args.bytes.now) no in
     let l = c.fill.ensures.len in
     let z : c.fill.new.self ≡ replicate n 0 = search rules in
-    (omega arith, (ap sum z ∙ sum_none n, (omega arith, tt)))
+    record {
+      few = omega arith;
+      sums = ap sum z ∙ sum_none n;
+      within = omega arith;
+    }

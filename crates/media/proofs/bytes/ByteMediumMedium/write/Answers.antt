@@ -51,7 +51,11 @@ invariant_of-self g c =
     let n = counts_more m.counts.now _ c.args.line k (ap (λ (l : List ℕ). set l c.args.line (get_or l c.args.line 0 + 1)) same) in
     let n0 = n.0 in
     let n1 = n.1 in
-    (omega arith, (omega arith, (omega arith, tt)))
+    record {
+      few = omega arith;
+      sums = omega arith;
+      within = omega arith;
+    }
 
 pub returns : goal.returns
 returns g c =

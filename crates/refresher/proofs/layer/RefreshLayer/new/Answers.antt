@@ -68,7 +68,21 @@ invariant_of-result-2 g c =
     let pays = life_pays I n (left b) paced lives in
     let w : Round = record { previous = get_or keys 0 0 % n; current = get_or keys 1 0 % n; turn = 1; pointer = 0 } in
     let cost = ap (λ d. d + d / I + n / 2) life_is in
-    (omega arith, (omega arith, ((λ _. again), (short, (omega arith, (omega arith, (omega arith, (omega arith, (omega arith, (omega arith, (sym q, (bounded_none w I paced refl, (omega arith, tt)))))))))))))
+    record {
+      within = omega arith;
+      few = omega arith;
+      power = (λ _. again);
+      short = short;
+      enough = omega arith;
+      turn = omega arith;
+      previous = omega arith;
+      current = omega arith;
+      pointer = omega arith;
+      waits = omega arith;
+      counted = sym q;
+      bounded = bounded_none w I paced refl;
+      room = omega arith;
+    }
 
 pub returns : goal.returns
 returns g c =

@@ -41,7 +41,21 @@ invariant_of-self-then-self g c =
     let q = held_noted held some tl c.if-self.true in
     let k = length-take-le x.ring x.keys x.enough in
     let t = q.turn in
-    (q.within, (x.few, (q.power, (x.short, (x.enough, (omega arith, (q.previous, (q.current, (q.pointer, (q.waits, (q.counted, (q.bounded, (x.room, tt)))))))))))))
+    record {
+      within = q.within;
+      few = x.few;
+      power = q.power;
+      short = x.short;
+      enough = x.enough;
+      turn = omega arith;
+      previous = q.previous;
+      current = q.current;
+      pointer = q.pointer;
+      waits = q.waits;
+      counted = q.counted;
+      bounded = q.bounded;
+      room = x.room;
+    }
 
 pub returns-then-self : goal.returns-then-self
 returns-then-self g c =
@@ -93,7 +107,21 @@ invariant_of-self-then-mate-round g c =
     let q = held_unexchanged held some c.next-after.result ew tl d m in
     let k = length-take-le x.ring x.keys x.enough in
     let t = q.turn in
-    (q.within, (x.few, (q.power, (x.short, (x.enough, (omega arith, (q.previous, (q.current, (q.pointer, (q.waits, (q.counted, (q.bounded, (x.room, tt)))))))))))))
+    record {
+      within = q.within;
+      few = x.few;
+      power = q.power;
+      short = x.short;
+      enough = x.enough;
+      turn = omega arith;
+      previous = q.previous;
+      current = q.current;
+      pointer = q.pointer;
+      waits = q.waits;
+      counted = q.counted;
+      bounded = q.bounded;
+      room = x.room;
+    }
 
 pub returns-then-mate-round : goal.returns-then-mate-round
 returns-then-mate-round g c =
@@ -212,7 +240,21 @@ invariant_of-self-2 g c =
     let q = held_exchanged held some c.next-after.result ew tl d m in
     let k = length-take-le x.ring x.keys x.enough in
     let t = q.turn in
-    (q.within, (x.few, (q.power, (x.short, (x.enough, (omega arith, (q.previous, (q.current, (q.pointer, (q.waits, (q.counted, (q.bounded, (x.room, tt)))))))))))))
+    record {
+      within = q.within;
+      few = x.few;
+      power = q.power;
+      short = x.short;
+      enough = x.enough;
+      turn = omega arith;
+      previous = q.previous;
+      current = q.current;
+      pointer = q.pointer;
+      waits = q.waits;
+      counted = q.counted;
+      bounded = q.bounded;
+      room = x.room;
+    }
 
 pub returns : goal.returns
 returns g c =

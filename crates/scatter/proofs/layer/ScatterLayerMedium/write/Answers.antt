@@ -43,7 +43,9 @@ invariant_of-self-2 g c =
     let k : x.taken < paid_life x.life x.taken x.life (x.taken + (b.life - b.taken)) = omega arith in
     let p = paid_below x.life x.taken x.life _ k in
     let p1 = p.1 in
-    (omega arith, tt)
+    record {
+      within = omega arith;
+    }
 
 pub returns : goal.returns
 returns g c =
