@@ -27,16 +27,16 @@ returns c =
     let f2 = f.2 in
     let f3 = f.3 in
     let f4 = f.4 in
-    let names = c.carry-out.ensures.memory in
-    let n1 : c.carry-out.new.medium.bytes.ghost_name ≡ c.new-medium.result.bytes.ghost_name = first_same _ _ _ _ names in
-    let n2 : c.carry-out.new.medium.counts.ghost_name ≡ c.new-medium.result.counts.ghost_name = second_same _ _ _ _ names in
+    let names = c.carry_out.ensures.memory in
+    let n1 : c.carry_out.new.medium.bytes.ghost_name ≡ c.new-medium.result.bytes.ghost_name = first_same _ _ _ _ names in
+    let n2 : c.carry_out.new.medium.counts.ghost_name ≡ c.new-medium.result.counts.ghost_name = second_same _ _ _ _ names in
     let ran = bytes_run _ held (λ m. m.life) (λ m. refl) (λ m. refl) (λ m i v n. ((λ t e. same_memory _ _ _ _ e.0 e.1), (λ d e. same_memory _ _ _ _ e.0 e.1)))
-    c.new-medium.result (calls_of (requests_from c.args.file.now c.args.from (length c.args.slots.now))) _ c.carry-out.new.medium m₀ c.args.life
-    (same_memory _ _ _ _ f0 f1) f2 c.carry-out.ensures.played in
+    c.new-medium.result (calls_of (requests_from c.args.file.now c.args.from (length c.args.slots.now))) _ c.carry_out.new.medium m₀ c.args.life
+    (same_memory _ _ _ _ f0 f1) f2 c.carry_out.ensures.played in
     record {
-      same = c.carry-out.ensures.same;
+      same = c.carry_out.ensures.same;
       answers = ran.0;
       memory = same_memory _ _ _ _ (search rules) (search rules) ∙ ran.1;
       array = ran.3;
-      totals = totals_are (array_in (held c.carry-out.new.medium) c.carry-out.new.medium.life) (length c.args.slots.now) _ _ _ _ _ c.carry-out.auto.slots c.taken.ensures.answer c.life.ensures.answer c.taken-2.ensures.answer c.wear.ensures.answer (omega arith) ∙ ap (byte_totals (length c.args.slots.now)) ran.2;
+      totals = totals_are (array_in (held c.carry_out.new.medium) c.carry_out.new.medium.life) (length c.args.slots.now) _ _ _ _ _ c.carry_out.auto.slots c.taken.ensures.answer c.life.ensures.answer c.taken-2.ensures.answer c.wear.ensures.answer (omega arith) ∙ ap (byte_totals (length c.args.slots.now)) ran.2;
     }

@@ -11,9 +11,9 @@ loop-i-init g c =
 
 pub unreachable-requires : goal.unreachable-requires
 unreachable-requires g c =
-    let h = c.in-default.ensures.handed in
+    let h = c.in_default.ensures.handed in
     absurd (carried_sound g.M.Medium c.args.file.now c.args.from (length c.args.file.now - 16) (length c.args.slots.now) c.args.medium.now c.args.slots.now
-    c.loop-i.requests.file.now c.loop-i.requests.end c.loop-i.i c.loop-i.requests.at c.loop-i.medium c.loop-i.slots c.in-default.field-0
+    c.loop-i.requests.file.now c.loop-i.requests.end c.loop-i.i c.loop-i.requests.at c.loop-i.medium c.loop-i.slots c.in_default.field-0
     (omega arith) c.loop-i.invariant.0 c.loop-i.invariant.1 c.loop-i.invariant.3 h.0)
 
 pub answer-requires : goal.answer-requires

@@ -13,68 +13,68 @@ use Rattle.runner.specs.declared.totals.Totals.{Totals}
 use Rattle.runner.proofs.Wholeruns.{surveyed_ok, surveyed_broke, lent_fits, lent_slots, kept_slots, lent_number, whole_totals, whole_slots, whole_bytes, whole_counts, whole_array, first_is}
 use Rattle.runner.proofs.run.run_on_bytes.Goals as goal
 
-pub returns-in-err-survey-medium : goal.returns-in-err-survey-medium
-returns-in-err-survey-medium c =
-    let run = c.in-ok-run.run' in
+pub returns-in_err-survey_medium : goal.returns-in_err-survey_medium
+returns-in_err-survey_medium c =
+    let run = c.in_ok-run.run' in
     let f = c.args.file.now in
     let bs = c.args.bytes.now in
     let cs = c.args.counts.now in
     let ss = c.args.slots.now in
-    let r = ready f (length ss) run c.in-ok-run.ensures.answer in
+    let r = ready f (length ss) run c.in_ok-run.ensures.answer in
     let x : Reading = record { run = run; requests = requests_from f (run.place + 20) run.number } in
-    let p = err_from_is_err_and c.from-residual-in-err-survey-medium.result c.from-residual-in-err-survey-medium.ensures.1 in
-    let is = surveyed_broke (reading f (length ss)) x (length bs) (length cs) _ r.read c.in-err-survey-medium.ensures.answer in
+    let p = err_from_is_err_and c.from_residual-in_err-survey_medium.result c.from_residual-in_err-survey_medium.ensures.1 in
+    let is = surveyed_broke (reading f (length ss)) x (length bs) (length cs) _ r.read c.in_err-survey_medium.ensures.answer in
     record {
       answer = p.1 ∙ ap {B = Result Totals Fault} Err p.2 ∙ sym (ap (λ (z : Result Reading Fault). totals_of z bs) is);
-      slots = c.in-ok-run.ensures.slots ∙ sym (ap (λ (z : Result Reading Fault). slots_left z (reading f (length ss)) bs ss) is);
+      slots = c.in_ok-run.ensures.slots ∙ sym (ap (λ (z : Result Reading Fault). slots_left z (reading f (length ss)) bs ss) is);
       bytes = sym (ap (λ (z : Result Reading Fault). bytes_left z bs) is);
       counts = sym (ap (λ (z : Result Reading Fault). counts_left z bs cs) is);
-      bound = IfOk-from_err c.from-residual-in-err-survey-medium.result (λ (t : Totals). t.requests ≤ length ss) (ap is_err p.1);
+      bound = IfOk-from_err c.from_residual-in_err-survey_medium.result (λ (t : Totals). t.requests ≤ length ss) (ap is_err p.1);
       array = subst (λ z. ArrayHeld z bs) (sym is) tt;
     }
 
-pub slice-bounds-on-bytes-end-2 : goal.slice-bounds-on-bytes-end-2
-slice-bounds-on-bytes-end-2 c = (lent_fits c.in-ok-run.run' c.args.bytes.now c.args.counts.now c.in-ok-survey-medium.ensures.answer).0
+pub slice_bounds-on_bytes-end-2 : goal.slice_bounds-on_bytes-end-2
+slice_bounds-on_bytes-end-2 c = (lent_fits c.in_ok-run.run' c.args.bytes.now c.args.counts.now c.in_ok-survey_medium.ensures.answer).0
 
-pub on-bytes-totals-requires : goal.on-bytes-totals-requires
-on-bytes-totals-requires c =
-    let run = c.in-ok-run.run' in
+pub on_bytes-totals-requires : goal.on_bytes-totals-requires
+on_bytes-totals-requires c =
+    let run = c.in_ok-run.run' in
     let f = c.args.file.now in
-    let r = ready f (length c.args.slots.now) run c.in-ok-run.ensures.answer in
-    let ss : c.read-run.new.slots ≡ map slot_at (requests_from f (run.place + 20) run.number) ++ drop run.number c.args.slots.now =
-    c.in-ok-run.ensures.slots ∙ ap (λ (x : Result Reading Fault). slots_after x c.args.slots.now) r.read in
+    let r = ready f (length c.args.slots.now) run c.in_ok-run.ensures.answer in
+    let ss : c.read_run.new.slots ≡ map slot_at (requests_from f (run.place + 20) run.number) ++ drop run.number c.args.slots.now =
+    c.in_ok-run.ensures.slots ∙ ap (λ (x : Result Reading Fault). slots_after x c.args.slots.now) r.read in
     let n = ap (λ (l : List Slot). length (take (run.number - 0) l)) ss ∙ lent_number f (run.place + 20) run.number c.args.slots.now in
     record {
-      fit = (lent_fits run c.args.bytes.now c.args.counts.now c.in-ok-survey-medium.ensures.answer).2;
+      fit = (lent_fits run c.args.bytes.now c.args.counts.now c.in_ok-survey_medium.ensures.answer).2;
       length = (r.inside, r.short);
       checked = ap (λ (k : ℕ). requests_fault f (run.place + 20) (length f - 16) k) n ∙ r.checked;
     }
 
 pub returns : goal.returns
 returns c =
-    let run = c.in-ok-run.run' in
+    let run = c.in_ok-run.run' in
     let f = c.args.file.now in
     let bs = c.args.bytes.now in
     let cs = c.args.counts.now in
     let ss = c.args.slots.now in
-    let r = ready f (length ss) run c.in-ok-run.ensures.answer in
+    let r = ready f (length ss) run c.in_ok-run.ensures.answer in
     let x : Reading = record { run = run; requests = requests_from f (run.place + 20) run.number } in
-    let survey = c.in-ok-survey-medium.ensures.answer in
+    let survey = c.in_ok-survey_medium.ensures.answer in
     let is = surveyed_ok (reading f (length ss)) x (length bs) (length cs) r.read survey in
-    let slots : c.read-run.new.slots ≡ map slot_at (requests_from f (run.place + 20) run.number) ++ drop run.number ss =
-    c.in-ok-run.ensures.slots ∙ ap (λ (z : Result Reading Fault). slots_after z ss) r.read in
+    let slots : c.read_run.new.slots ≡ map slot_at (requests_from f (run.place + 20) run.number) ++ drop run.number ss =
+    c.in_ok-run.ensures.slots ∙ ap (λ (z : Result Reading Fault). slots_after z ss) r.read in
     let n = ap (λ (l : List Slot). length (take (run.number - 0) l)) slots ∙ lent_number f (run.place + 20) run.number ss in
     let ec = ap (λ (k : ℕ). calls_of (requests_from f (run.place + 20) k)) n in
     let em = first_is x bs cs (lent_fits run bs cs survey).0 in
-    let ran = c.on-bytes-totals.ensures in
+    let ran = c.on_bytes-totals.ensures in
     record {
-      answer = whole_totals x bs _ em _ ec c.on-bytes-totals.result _ _ n is ran.totals;
+      answer = whole_totals x bs _ em _ ec c.on_bytes-totals.result _ _ n is ran.totals;
       slots =
-          whole_slots x bs _ em _ ec _ _ ss _ c.on-bytes-totals.new.slots _ is
+          whole_slots x bs _ em _ ec _ _ ss _ c.on_bytes-totals.new.slots _ is
           (ap (take (run.number - 0)) slots ∙ lent_slots f (run.place + 20) run.number ss) ran.same ran.answers
           (ap (drop (run.number - 0)) slots ∙ kept_slots f (run.place + 20) run.number ss);
-      bytes = whole_bytes x bs _ em _ ec _ c.on-bytes-totals.new.bytes c.on-bytes-totals.new.counts _ is ran.memory (ap (λ (k : ℕ). drop k bs) (sub-zero (run.settings.lines * 16)));
-      counts = whole_counts x bs _ em _ ec _ c.on-bytes-totals.new.bytes c.on-bytes-totals.new.counts _ cs is ran.memory (ap (λ (k : ℕ). drop k cs) (sub-zero run.settings.lines));
+      bytes = whole_bytes x bs _ em _ ec _ c.on_bytes-totals.new.bytes c.on_bytes-totals.new.counts _ is ran.memory (ap (λ (k : ℕ). drop k bs) (sub-zero (run.settings.lines * 16)));
+      counts = whole_counts x bs _ em _ ec _ c.on_bytes-totals.new.bytes c.on_bytes-totals.new.counts _ cs is ran.memory (ap (λ (k : ℕ). drop k cs) (sub-zero run.settings.lines));
       bound = let e = ap (λ (t : Totals). t.requests) ran.totals in let m = r.room in omega (arith, e, n);
       array = whole_array x bs _ em _ ec _ is ran.array;
     }
