@@ -33,6 +33,9 @@ returns-in_err-survey_medium c =
       array = subst (λ z. ArrayHeld z bs) (sym is) tt;
     }
 
+pub slice_bounds-on_bytes-end : goal.slice_bounds-on_bytes-end
+slice_bounds-on_bytes-end c = (lent_fits c.in_ok-run.run' c.args.bytes.now c.args.counts.now c.in_ok-survey_medium.ensures.answer).1
+
 pub slice_bounds-on_bytes-end-2 : goal.slice_bounds-on_bytes-end-2
 slice_bounds-on_bytes-end-2 c = (lent_fits c.in_ok-run.run' c.args.bytes.now c.args.counts.now c.in_ok-survey_medium.ensures.answer).0
 
