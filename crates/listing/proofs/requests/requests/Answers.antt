@@ -8,7 +8,7 @@ loop-slot-init g c plain = put_none g.W.Write.write_str_gives c.args.f.now plain
 pub loop-slot-preserved : goal.loop-slot-preserved
 loop-slot-preserved g c plain =
     let p = c.loop-slot.invariant plain in
-    let q = c.in-ok-writeln.ensures.shows p.plain refl in
+    let q = c.in_ok-writeln.ensures.writes p.plain refl in
     put_line g.W.Write.write_str_gives c.args.f.now c.loop-slot.f c.writeln.new.self c.args.slots.now c.loop-slot.slot-index no_slot (omega arith) p q
 
 pub returns : goal.returns
