@@ -1,5 +1,5 @@
 -- A numeral is read as what it spells, and what is read is what it spells. By recursion over the digits; a number only grows with its digits.
-use Rattle.std.proofs.Common.{◌≡◌, ℕ, ◌-◌, ◌≤◌, Bool, true, false, cond, ◌&&◌, eqb, leb, ◌⊎◌, List, [], ◌∷◌, ℤ, pos, neg_ℤ, Ok, Err, Result, sym, refl, ap, ◌∙◌, inl, inr, ⊎_elim, arith, ne_eqb, eqb-true, le-leb, leb-true}
+use Rattle.std.proofs.Common.{◌≡◌, ℕ, ◌≤◌, Bool, true, false, cond, ◌&&◌, eqb, leb, List, [], ◌∷◌, ℤ, pos, neg_ℤ, Ok, Err, Result, sym, refl, ap, ◌∙◌, inl, inr, ⊎_elim, arith, ne_eqb, eqb-true, le-leb, leb-true}
 use Rattle.compose.specs.declared.refusal.Wrong.{Wrong}
 use Rattle.compose.specs.declared.refusal.Wrong.TheVariants.{NotANumber, OutOfRange}
 use Rattle.compose.specs.Numerals.{is_digit, longer, number_after, number, positive, negative, integer}

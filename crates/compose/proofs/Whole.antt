@@ -1,5 +1,5 @@
 -- The whole: the settings' lines and then the requests' give what the text says, and their bytes one after another are the run file.
-use Rattle.std.proofs.Common.{◌≡◌, ℕ, ◌+◌, List, ◌++◌, length, take, Ok, Err, Result, sym, ap, ◌∙◌, append_assoc}
+use Rattle.std.proofs.Common.{◌≡◌, ℕ, List, ◌++◌, length, take, Ok, Err, Result, sym, ap, ◌∙◌, append_assoc}
 use Rattle.std.proofs.lemmas.List.{take_at}
 use Rattle.runfile.specs.Asks.{Ask}
 use Rattle.runfile.specs.RunFile.{asks_bytes, settings_bytes, trailer_bytes}

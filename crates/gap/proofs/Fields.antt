@@ -1,6 +1,6 @@
 -- What the fields of a layer keep true, and what it means by them. The registers are sound, so places and lines follow the laws of
 -- regions; and copies * interval, with what is due, is taken, so that the life pays for each copy before it is made.
-use Rattle.std.proofs.Common.{◌≡◌, ℕ, ◌+◌, ◌-◌, ◌*◌, ◌/◌, ◌<◌, ◌≤◌, List, [], ◌∷◌, length, get_or, set, None, Err, sym, refl, ap, ◌∙◌, subst, ⊎_elim, add-mul, le-div_iff_mul-le, arith}
+use Rattle.std.proofs.Common.{◌≡◌, ℕ, ◌+◌, ◌*◌, ◌/◌, ◌<◌, ◌≤◌, List, [], ◌∷◌, length, get_or, set, None, Err, refl, ap, ◌∙◌, subst, add-mul, le-div_iff_mul-le, arith}
 use Rattle.std.proofs.lemmas.List.{length-set}
 use Rattle.std.proofs.lemmas.List.Sums.{get_or-le-sum_by}
 use Rattle.line.specs.declared.denial.Denial.{Denial}
@@ -8,7 +8,7 @@ use Rattle.startgap.specs.declared.row.Row.{Row}
 use Rattle.startgap.specs.Rows.{row_counted, row_moved}
 use Rattle.startgap.specs.Regions.{Gaps, GapsSound, no_row, row_at, line_count, place_count, gap_place, with_row, total_due}
 use Rattle.startgap.proofs.Rows.{moved_due, moved_sound}
-use Rattle.startgap.proofs.Regions.{line_region, place_within}
+use Rattle.startgap.proofs.Regions.{place_within}
 use Rattle.startgap.proofs.Writes.{set_every, total_due_set, line_low}
 use Rattle.medium.specs.Array.{Array, fetched, denied_by}
 use Rattle.medium.specs.Law.{left}

@@ -1,9 +1,8 @@
 -- Which line is at a place. A place of the regions is split into its region and the place within it, and the row says the rest; the
 -- line's number is below the count of lines, as its offset is below the region's size.
-use Rattle.std.proofs.Common.{◌≡◌, ℕ, ◌+◌, ◌*◌, ◌<◌, ◌≤◌, cond, ◌≢◌, Some, None, Ok, Err, Option, Result, sym, ap, ◌∙◌, subst, ⊎_elim, mod-lt, mul-add, arith}
+use Rattle.std.proofs.Common.{◌≡◌, ℕ, ◌+◌, ◌*◌, ◌<◌, ◌≤◌, cond, ◌≢◌, Some, None, Ok, Err, Option, sym, ap, ◌∙◌, ⊎_elim, mod-lt, mul-add, arith}
 use lib.Arith.{digits_lt}
 use Rattle.std.proofs.lemmas.Bool.{cases_eq, lt-ltb}
-use Rattle.line.specs.declared.denial.Denial.{Denial}
 use Rattle.line.specs.declared.denial.Denial.TheVariants.{NoSuchLine}
 use Rattle.startgap.specs.declared.row.Row.{Row}
 use Rattle.startgap.specs.Rows.{RowSound, row_line, row_holder}

@@ -1,6 +1,6 @@
 -- A new layer. Where each question of the survey is answered yes, the settings are in range, the places lie below, and the life is the
 -- greatest that is paid for; where one is answered no, there are no regions, and so no lines.
-use Rattle.std.proofs.Common.{◌≡◌, ℕ, zero, suc, ◌+◌, ◌-◌, ◌*◌, ◌/◌, ◌<◌, ◌≤◌, Bool, true, false, cond, leb, List, [], ◌∷◌, map, length, get_or, replicate, is_err, Ok, Err, Result, sym, refl, ap, ◌∙◌, subst, arith}
+use Rattle.std.proofs.Common.{◌≡◌, ℕ, zero, suc, ◌+◌, ◌*◌, ◌/◌, ◌≤◌, Bool, true, false, cond, leb, List, [], map, length, get_or, replicate, is_err, Ok, Err, Result, sym, refl, ap, ◌∙◌, subst, arith}
 use Rattle.std.specs.List.{range_with_len}
 use Rattle.line.specs.Denials.{ask, in_range}
 use Rattle.line.specs.declared.denial.Denial.{Denial}

@@ -1,5 +1,5 @@
 -- Numbers as bytes, the lowest byte first. Assumes nothing.
-use Rattle.std.specs.Prelude.{ℕ, ◌+◌, ◌*◌, ◌/◌, ◌%◌, List, [], ◌∷◌, ◌++◌, slice_index}
+use Rattle.std.specs.Prelude.{ℕ, ◌+◌, ◌*◌, ◌/◌, ◌%◌, List, [], ◌∷◌, slice_index}
 
 -- the number of 16, 32 or 64 bits that stands in bs from o on
 abbrev pub at16 : List ℕ → ℕ → ℕ

@@ -9,7 +9,6 @@ use Rattle.runfile.specs.declared.fault.Stage.TheVariants.{Trailer, Settings, Re
 use Rattle.runfile.specs.declared.slot.Answer.{Answer}
 use Rattle.runfile.specs.declared.slot.Answer.TheVariants.{Unmarked, Denied, Toll, Line}
 use Rattle.runfile.specs.declared.slot.Slot.{Slot}
-use Rattle.runfile.specs.Faults.{stage_letter}
 use Rattle.runfile.specs.Slots.{tag_letter}
 use Rattle.runner.specs.declared.totals.Totals.{Totals}
 

@@ -1,7 +1,6 @@
 -- The lines of a byte medium. Writing one chunk of a list of bytes changes that one value of its chunks: by induction over the chunks,
 -- since the part that is written lies in the first chunk or past it. A count more is one more in the sum.
 use Rattle.std.proofs.Common.{◌≡◌, ℕ, zero, suc, ◌+◌, ◌-◌, ◌*◌, ◌<◌, ◌≤◌, Bool, true, false, cond, eqb, leb, List, [], ◌∷◌, ◌++◌, length, get_or, take, drop, set, replicate, is_err, Ok, Err, sum, Result, sym, refl, ap, ◌∙◌, mul-le-mul_right, suc-mul, zero-mul, arith, length-drop, eq-eqb, ne_eqb, eqb-true, le-leb}
-use borrow.Author.Tests.{lt-leb}
 use borrow.Rule.Slice.PartMut.{put_mid, same_len_mid}
 use Rattle.std.proofs.lemmas.List.{take_at, drop_at, drop-append-le, drop-take, drop-drop, length-take-le, length-set}
 use Rattle.std.proofs.lemmas.Slice.{take-put_mid_below, put_mid-paste}

@@ -1,13 +1,12 @@
 -- Piles that are newly fitted. Registers that begin sound stay sound over every call, so each copy reads the place of the line that it
 -- moves; the copies of gap regions are those of its accepted writes, which are even; and places lead from line to line down to the
 -- bottom. Each is a recursion over the pile, and within a level an induction over the calls.
-use Rattle.std.proofs.Common.{◌≡◌, ℕ, ◌+◌, ◌-◌, ◌*◌, ◌/◌, ◌^◌, ◌<◌, ◌≤◌, Bool, true, false, cond, leb, ◌⊎◌, List, [], ◌∷◌, ◌++◌, map, length, get_or, set, is_err, Some, None, Ok, Err, Option, Result, sym, refl, ap, ◌∙◌, subst, inl, inr, ⊎_elim, arith}
-use Rattle.std.proofs.lemmas.List.{length-set, append-nil}
-use Rattle.std.proofs.lemmas.Bool.{cases_lt, lt-ltb, le-ltb}
+use Rattle.std.proofs.Common.{◌≡◌, ℕ, ◌+◌, ◌*◌, ◌/◌, ◌^◌, ◌<◌, ◌≤◌, true, false, cond, leb, ◌⊎◌, List, [], ◌∷◌, ◌++◌, length, get_or, is_err, Some, None, Ok, Err, Option, Result, sym, refl, ap, ◌∙◌, subst, inl, inr, ⊎_elim, arith}
+use Rattle.std.proofs.lemmas.List.{length-set}
+use Rattle.std.proofs.lemmas.Bool.{cases_lt}
 use Rattle.std.specs.List.{AllByRecursion as All}
-use Rattle.line.specs.Copies.{Copy}
 use Rattle.line.specs.declared.denial.Denial.{Denial}
-use Rattle.line.specs.declared.denial.Denial.TheVariants.{NoSuchLine, LifeUsed}
+use Rattle.line.specs.declared.denial.Denial.TheVariants.{NoSuchLine}
 use Rattle.startgap.specs.Regions as startgap
 use Rattle.startgap.specs.Regions.{Gaps, GapsSound, new_gaps, region_size, line_count, place_count, gap_place, gaps_copies, AllLines}
 use Rattle.startgap.specs.Theorems.{Carries, Even, Fit}
@@ -21,12 +20,12 @@ use Rattle.refresh.specs.Theorems.{SoundRegisters}
 use Rattle.refresh.proofs.Places as places
 use Rattle.refresh.proofs.Refreshes as refreshes
 use Rattle.refresh.proofs.Writes as writes
-use Rattle.medium.specs.Array.{Array, unless_denied, denied_by, accepted, next, after, reply, replies, written, denied, write_reply}
-use Rattle.medium.specs.Law.{accepted_writes, Lasts, copies_by, copied, Carried, EvenCopies, Evenly, left, NewScatter, NewGaps, NewRefresh, New, Unfit, MadeOver, Fitted, deep, Leads}
+use Rattle.medium.specs.Array.{Array, unless_denied, denied_by, accepted, next, after, write_reply}
+use Rattle.medium.specs.Law.{Lasts, copies_by, copied, Carried, EvenCopies, Evenly, left, New, Unfit, MadeOver, Fitted, deep, Leads}
 use Rattle.medium.specs.Pile.{Layer, scatter, gaps, refresh, place, due_copies, turned, turned_by, layer_at, asks, Pile, bottom, over, bottom_array, placed_lines, paid_life}
 use Rattle.medium.specs.declared.call.Call.{Call}
 use Rattle.medium.specs.declared.call.Call.TheVariants.{Read, Write}
-use Rattle.medium.proofs.Arrays.{accepts_write, denies_line, denies_life, next_accepted, next_denied, next_read}
+use Rattle.medium.proofs.Arrays.{accepts_write, denies_line, denies_life}
 use Rattle.medium.proofs.Layers.{placed_in, placed_at, placed_length}
 use Rattle.std.proofs.ByRecursion.{All-weaker}
 use Rattle.medium.proofs.Piles.{taken_after}

@@ -1,13 +1,13 @@
 -- What a layer shows: its lines are found again at their places, its life is paid for, and what it asked below is what the definitions say.
-use Rattle.std.proofs.Common.{◌≡◌, ℕ, zero, suc, ◌+◌, ◌-◌, ◌<◌, ◌≤◌, Bool, true, false, cond, leb, ◌≢◌, List, [], ◌∷◌, ◌++◌, map, length, get_or, take, drop, set, Some, None, Ok, Err, Option, sym, refl, ap, ◌∙◌, subst, ⊎_elim, arith}
+use Rattle.std.proofs.Common.{◌≡◌, ℕ, zero, suc, ◌<◌, ◌≤◌, cond, ◌≢◌, List, [], ◌∷◌, ◌++◌, map, length, get_or, take, set, Some, None, Ok, Option, sym, refl, ap, ◌∙◌, subst, ⊎_elim, arith}
 use Rattle.std.specs.List.{range_with_len, AllByRecursion as All}
 use Rattle.std.proofs.lemmas.Bool.{le-leb, lt-leb, cases_lt, cases_eq}
 use Rattle.std.proofs.lemmas.List.{drop_more, length-take, length-drop, length-append, length-set, get_or-set_same, get_or-set_other, same_lists}
 use Rattle.std.proofs.lemmas.List.FromFn.{length-map-range_with_len, get_or-map-range_with_len}
 use Rattle.std.proofs.ByRecursion.{All-from_get_or}
 use Rattle.line.specs.declared.denial.Denial.{Denial}
-use Rattle.medium.specs.Array.{Array, unless_denied, denied_by, next, after, fetched, Wrote}
-use Rattle.medium.specs.Pile.{Layer, requests, turned_by, asked_at, layer_at, asks, layer_after, Undenied, Pile, over, Served, gathered, placed_lines, paid_life}
+use Rattle.medium.specs.Array.{Array, unless_denied, denied_by, after, fetched, Wrote}
+use Rattle.medium.specs.Pile.{Layer, requests, turned_by, asked_at, layer_at, Undenied, Pile, over, Served, gathered, placed_lines, paid_life}
 use Rattle.medium.specs.declared.call.Call.{Call}
 use Rattle.medium.specs.declared.call.Call.TheVariants.{Read, Write}
 use Rattle.medium.proofs.Arrays.{next_read, accepts_read, after_append, fetched_by}

@@ -1,6 +1,6 @@
 -- Runs of piles. What is asked below over two runs is what is asked over the one and then the other, so runs can be put together; each
 -- accepted call is one write or read below and as many writes more as there are copies; and the rest follows by recursion over the pile.
-use Rattle.std.proofs.Common.{◌≡◌, ℕ, ◌+◌, ◌-◌, ◌/◌, ◌%◌, ◌^◌, ◌<◌, ◌≤◌, Bool, true, false, cond, List, [], ◌∷◌, ◌++◌, map, length, get_or, take, drop, set, Some, None, Ok, Err, Option, Result, sym, refl, ap, ◌∙◌, subst, arith}
+use Rattle.std.proofs.Common.{◌≡◌, ℕ, ◌+◌, ◌-◌, ◌/◌, ◌%◌, ◌^◌, ◌<◌, true, false, cond, List, [], ◌∷◌, ◌++◌, map, length, get_or, take, drop, set, Some, None, Ok, Err, Option, Result, sym, refl, ap, ◌∙◌, subst, arith}
 use Rattle.std.proofs.lemmas.List.{append-nil, append_assoc, map-append, take_more, take_more_set, drop-set-lt, drop-drop}
 use Rattle.line.specs.Copies.{Copy}
 use Rattle.line.specs.declared.denial.Denial.{Denial}
@@ -9,13 +9,13 @@ use Rattle.startgap.specs.Regions.{row_at, region_copy}
 use Rattle.startgap.specs.Rows.{move_due}
 use Rattle.refresh.specs.Refresh as refreshing
 use Rattle.medium.specs.Array.{Array, unless_denied, denied_by, accepted, next, after, Reply, fetched, read_reply, write_reply, reply, replies, Wrote}
-use Rattle.medium.specs.Law.{reply_of, toll, tolls, accepted_one, accepted_writes, Ran, Books}
-use Rattle.medium.specs.Pile.{Layer, scatter, gaps, refresh, place, due_copies, turned, made, reads_of, writes_of, requests, turned_by, asked_at, layer_at, asks, layer_after, Undenied, Pile, bottom, over, Served, bottom_array, bottom_wear, copies}
+use Rattle.medium.specs.Law.{reply_of, tolls, accepted_one, accepted_writes, Ran, Books}
+use Rattle.medium.specs.Pile.{Layer, scatter, gaps, refresh, place, due_copies, turned, made, reads_of, writes_of, requests, asked_at, layer_at, asks, layer_after, Undenied, Pile, bottom, over, Served, bottom_array, bottom_wear, copies}
 use Rattle.medium.specs.declared.call.Answer.{Answer}
 use Rattle.medium.specs.declared.call.Answer.TheVariants.{Line, Toll, Denied}
 use Rattle.medium.specs.declared.call.Call.{Call}
 use Rattle.medium.specs.declared.call.Call.TheVariants.{Read, Write}
-use Rattle.medium.proofs.Arrays.{next_accepted, next_denied, next_read, after_append, replies_append}
+use Rattle.medium.proofs.Arrays.{next_read, after_append, replies_append}
 
 pub tolls_append : {A : Type 0} (rs ss : List (Answer A)) → tolls (rs ++ ss) ≡ tolls rs + tolls ss
 unfolding tolls

@@ -1,5 +1,5 @@
 -- The law of every pile over every succession of calls: as a flat array, with books that balance, and evenly. Assumes nothing.
-use Rattle.std.specs.Prelude.{◌≡◌, ℕ, ◌+◌, ◌-◌, ◌*◌, ◌/◌, ◌%◌, ◌^◌, ◌<◌, ◌≤◌, ◌⊎◌, List, [], ◌∷◌, ◌++◌, map, length, None, Ok, Err, Result, slice_index_or}
+use Rattle.std.specs.Prelude.{◌≡◌, ℕ, ◌+◌, ◌-◌, ◌*◌, ◌%◌, ◌^◌, ◌<◌, ◌≤◌, ◌⊎◌, List, [], ◌∷◌, ◌++◌, map, length, None, Ok, Err, Result, slice_index_or}
 use Rattle.std.specs.List.{AllByRecursion as All}
 use Rattle.line.specs.Copies.{Copy}
 use Rattle.line.specs.declared.denial.Denial.{Denial as Denied-by}

@@ -1,10 +1,10 @@
 -- What the layer's fields say of its registers: they are sound where there are lines, and the copies made are bounded, so that what the
 -- life sets aside pays for the next write and its copies. A write keeps all of it: only the count of due writes rises, or a refresh is made.
-use Rattle.std.proofs.Common.{◌≡◌, ℕ, suc, ◌+◌, ◌-◌, ◌/◌, ◌%◌, ◌<◌, ◌≤◌, length, take, sym, ◌∙◌, subst, arith}
+use Rattle.std.proofs.Common.{◌≡◌, ℕ, ◌+◌, ◌-◌, ◌/◌, ◌%◌, ◌<◌, ◌≤◌, length, sym, ◌∙◌, subst, arith}
 use Rattle.std.proofs.lemmas.List.{length-take-le}
 use Rattle.refresh.specs.declared.round.Round.{Round}
 use Rattle.refresh.specs.Powers.{PowerOfTwo, greatest_power}
-use Rattle.refresh.specs.Refresh.{Registers, pointer_mate, place_of, refreshed, Sound, Bounded}
+use Rattle.refresh.specs.Refresh.{Registers, pointer_mate, refreshed, Sound, Bounded}
 use Rattle.refresh.proofs.Counts.{bounded_most, bounded_two, bounded_exchange, bounded_no_exchange}
 use Rattle.refresh.proofs.Lives.{room_write, room_exchange}
 use Rattle.refresh.proofs.Powers.{greatest_computed}

@@ -1,7 +1,7 @@
 -- The making of the layer. Where the survey says yes, the settings are in range, the size is the greatest power of two and the life is the
 -- greatest that is paid; the table's first keys are the ring, so the registers are new ones, and no copy has been made yet. An unfit layer
 -- has size 0 and so no lines.
-use Rattle.std.proofs.Common.{◌≡◌, ℕ, ◌+◌, ◌-◌, ◌/◌, ◌%◌, ◌<◌, ◌≤◌, true, false, cond, leb, ◌⊎◌, List, [], length, get_or, take, is_err, Ok, Err, Result, sym, refl, ap, ◌∙◌, subst, ⊎_elim, arith}
+use Rattle.std.proofs.Common.{◌≡◌, ℕ, ◌+◌, ◌/◌, ◌%◌, ◌<◌, ◌≤◌, true, false, cond, leb, List, [], length, get_or, take, is_err, Ok, Err, Result, sym, refl, ap, ◌∙◌, subst, ⊎_elim, arith}
 use Rattle.std.proofs.lemmas.List.{get_or-take}
 use Rattle.std.proofs.lemmas.Bool.{cases_lt}
 use Rattle.line.specs.declared.denial.Denial.{Denial}
@@ -10,13 +10,13 @@ use Rattle.line.specs.Denials.{ask, in_range}
 use Rattle.refresh.specs.declared.round.Round.{Round}
 use Rattle.refresh.specs.Life.{Pays, GreatestLife, life_of}
 use Rattle.refresh.specs.Powers.{greatest_power}
-use Rattle.refresh.specs.Refresh.{Registers, first_round, new_registers, Bounded}
+use Rattle.refresh.specs.Refresh.{Registers, new_registers, Bounded}
 use Rattle.refresh.proofs.Counts.{bounded_first}
 use Rattle.refresh.proofs.Lives.{life_greatest}
 use Rattle.refresh.proofs.Powers.{greatest_computed, greatest_only}
 use Rattle.refresh.proofs.Quotients.{quotient_small}
 use Rattle.medium.specs.Array.{Array}
-use Rattle.medium.specs.Law.{left, NewRefresh, Unfit}
+use Rattle.medium.specs.Law.{left, NewRefresh}
 use Rattle.medium.specs.Pile.{refresh, Pile, over, placed_lines, paid_life}
 use Rattle.medium.proofs.Layers.{paid_yes}
 use Rattle.refresher.specs.Layer.{registers, refresh_array, refresh_survey, Made, MadeUnfit}

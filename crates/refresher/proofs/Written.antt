@@ -11,7 +11,6 @@ use Rattle.refresh.proofs.Writes.{noted, turned, write_waits, write_no_exchange,
 use Rattle.medium.specs.Array.{Array, denied_by, fetched, Wrote}
 use Rattle.medium.specs.Law.{left}
 use Rattle.medium.specs.Pile.{refresh, reads_of, writes_of, requests, Pile, over, Served, placed_lines, paid_life}
-use Rattle.medium.specs.declared.call.Call.{Call}
 use Rattle.medium.specs.declared.call.Call.TheVariants.{Read, Write}
 use Rattle.medium.proofs.Arrays.{accepts_read, accepts_write, next_accepted, fetched_by, wrote_accepted}
 use Rattle.medium.proofs.Layers.{placed_in, placed_at, fetched_same, fetched_is, paid_yes, paid_below, Asked, asked_read, asked_write, asked_more, layer_accepted}

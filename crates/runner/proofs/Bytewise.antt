@@ -1,19 +1,19 @@
 -- A play on a byte medium. Each step alters the memory as the flat array is altered, and each toll is 1, since the wear is what is taken
 -- and an accepted write takes one: by induction over the steps.
-use Rattle.std.proofs.Common.{◌≡◌, ℕ, ◌+◌, ◌-◌, ◌%◌, ◌^◌, ◌<◌, List, [], ◌∷◌, map, Some, None, Ok, Err, sum, Option, Result, sym, refl, ap, ◌∙◌, subst, arith}
+use Rattle.std.proofs.Common.{◌≡◌, ℕ, ◌+◌, ◌-◌, ◌%◌, ◌^◌, ◌<◌, List, [], ◌∷◌, map, Some, None, Ok, Err, sum, Option, Result, sym, refl, ap, ◌∙◌, arith}
 use Rattle.line.specs.declared.denial.Denial.{Denial}
 use Rattle.line.specs.declared.load.Load.{Load}
-use Rattle.medium.specs.Array.{Array, Reply, line, written, denied, denied_by, unless_denied, accepted, next, after, reply, replies, read_reply, write_reply, fetched}
+use Rattle.medium.specs.Array.{Array, Reply, line, written, denied, denied_by, unless_denied, accepted, next, after, reply, replies, read_reply, write_reply}
 use Rattle.medium.specs.Meaning.{means}
 use Rattle.medium.specs.declared.call.Call.{Call}
 use Rattle.medium.specs.declared.call.Call.TheVariants.{Read, Write}
 use Rattle.medium.specs.declared.medium.Medium.{Ghosts}
-use Rattle.medium.proofs.Arrays.{next_accepted, next_denied, next_read}
+use Rattle.medium.proofs.Arrays.{next_accepted}
 use Rattle.runfile.specs.declared.slot.Answer.{Answer}
 use Rattle.runfile.specs.declared.slot.Answer.TheVariants.{Unmarked, Denied, Toll, Line}
 use Rattle.runner.specs.OnBytes.{Memory, array_in, memory_accepted, memory_next, memory_after, byte_answer, byte_totals}
 use Rattle.runner.specs.declared.totals.Totals.{Totals}
-use Rattle.runner.specs.Playing.{reply_in, Charged, Effect, Step, Played}
+use Rattle.runner.specs.Playing.{Step, Played}
 
 -- ---- what the array's reply to a write says of its denial
 none_from_written : {A : Type 0} (o : Option Denial) → ◌≡◌ {A = Option (Reply A)} (Some written) (Some (write_reply o)) → o ≡ None

@@ -6,10 +6,10 @@ use Rattle.std.proofs.lemmas.List.{append-nil, append_assoc, map-append, take_mo
 use Rattle.line.specs.Words.{at16}
 use Rattle.line.specs.declared.denial.Denial.{Denial}
 use Rattle.line.specs.declared.load.Load.{Load}
-use Rattle.medium.specs.Array.{Array, Reply, next, reply, read_reply, fetched}
+use Rattle.medium.specs.Array.{next, reply, read_reply, fetched}
 use Rattle.medium.specs.Meaning.{means}
 use Rattle.medium.specs.declared.call.Call.{Call}
-use Rattle.medium.specs.declared.call.Call.TheVariants.{Read, Write}
+use Rattle.medium.specs.declared.call.Call.TheVariants.{Read}
 use Rattle.medium.specs.declared.medium.Medium.{Ghosts}
 use Rattle.medium.proofs.Arrays.{next_read}
 use Rattle.runfile.specs.declared.slot.Answer.{Answer}
@@ -19,8 +19,7 @@ use Rattle.runfile.specs.declared.slot.Tag.TheVariants.{Read as read-tag}
 use Rattle.runfile.specs.declared.fault.Fault.{Fault}
 use Rattle.runfile.specs.declared.request.Request.{Request}
 use Rattle.runfile.specs.declared.request.Request.TheVariants.{Read as ReadRequest, Write as WriteRequest}
-use Rattle.runfile.specs.Asks.{Ask, read, write, Placed, placed_of}
-use Rattle.runfile.specs.Faults.{or_then}
+use Rattle.runfile.specs.Asks.{read, write, Placed, placed_of}
 use Rattle.reader.specs.Reading.{request_fault, requests_fault, requests_from, size_at, ask_at}
 use Rattle.reader.proofs.Walk.{walk_none, walk_more, walk_broke}
 use Rattle.runner.specs.Playing.{call_of, calls_of, Whole, Effect, Step, Played, unanswered, answered}

@@ -4,7 +4,7 @@ use Rattle.std.proofs.Common.{◌≡◌, ℕ, ◌-◌, ◌*◌, ◌≤◌, List,
 use native.Mathlib.Nat.{sub-zero}
 use Rattle.std.proofs.lemmas.List.{length-take-le, take_at, drop_at, length-map}
 use Rattle.line.specs.declared.load.Load.{Load}
-use Rattle.medium.specs.Array.{Array, after, replies}
+use Rattle.medium.specs.Array.{after, replies}
 use Rattle.medium.specs.declared.call.Call.{Call}
 use Rattle.media.specs.Bytes.{byte_survey}
 use Rattle.runfile.specs.declared.fault.Fault.{Fault}

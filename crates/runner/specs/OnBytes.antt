@@ -1,5 +1,5 @@
 -- A run on a byte medium of loads: what its memory then holds, and what is answered. Assumes nothing.
-use Rattle.std.specs.Prelude.{ℕ, ◌+◌, ◌-◌, ◌*◌, min, cond, List, [], ◌∷◌, ◌++◌, map, length, replicate, slice_index, slice_set}
+use Rattle.std.specs.Prelude.{ℕ, ◌+◌, ◌-◌, ◌*◌, List, [], ◌∷◌, slice_index, slice_set}
 use Rattle.line.specs.Loads.{load_of, load_bytes}
 use Rattle.line.specs.declared.load.Load.{Load}
 use Rattle.medium.specs.Array.{Array, Reply, line, written, denied, denied_by, unless_denied}

@@ -2,7 +2,7 @@
 use Rattle.std.specs.Prelude.{◌≡◌, ℕ, List, [], ◌∷◌, map, length, Some, None, Ok, Err, Option}
 use Rattle.line.specs.Loads.{load_of}
 use Rattle.line.specs.declared.load.Load.{Load}
-use Rattle.medium.specs.Array.{Array, Reply, line, written, denied, next, reply, Tolled}
+use Rattle.medium.specs.Array.{Reply, line, written, denied, next, reply, Tolled}
 use Rattle.medium.specs.Meaning.{means}
 use Rattle.medium.specs.declared.call.Call.{Call}
 use Rattle.medium.specs.declared.call.Call.TheVariants.{Read, Write}

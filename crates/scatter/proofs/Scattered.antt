@@ -1,5 +1,5 @@
 -- The scatter layer. Below its span a shuffle takes each number to another and back, so a write at the place of one line alters no other.
-use Rattle.std.proofs.Common.{◌≡◌, ℕ, ◌+◌, ◌-◌, ◌<◌, ◌≤◌, Bool, true, false, cond, ◌≢◌, List, [], ◌∷◌, length, get_or, set, is_err, None, Ok, sym, refl, ap, ◌∙◌, subst, arith}
+use Rattle.std.proofs.Common.{◌≡◌, ℕ, ◌+◌, ◌-◌, ◌<◌, ◌≤◌, Bool, true, false, ◌≢◌, List, [], ◌∷◌, length, set, is_err, None, Ok, sym, refl, ap, ◌∙◌, subst, arith}
 use Rattle.std.proofs.lemmas.List.{length-set, get_or-set_same, get_or-set_other}
 use Rattle.medium.specs.Array.{Array, denied_by, accepted, fetched, Wrote}
 use Rattle.medium.specs.Pile.{Pile, over, scatter, Served, placed_lines, paid_life}

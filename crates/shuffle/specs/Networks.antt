@@ -1,8 +1,8 @@
 -- A stage only xors one half with a number that the other half gives, and the other half is kept beside it: so xoring again undoes it,
 -- whatever the round function. That the halves keep their n bits needs of the round function only that it answers n bits.
 -- Both go over to lists of stages by induction, and to numbers since a number below 4 ^ n and its halves are each other's.
-use Rattle.std.specs.Prelude.{◌≡◌, ℕ, ◌+◌, ◌*◌, ◌/◌, ◌%◌, ◌^◌, ◌<◌, ◌≤◌, List, [], ◌∷◌, bit_xor, refl}
-use Rattle.std.proofs.Common.{sym, ◌∙◌, ap, subst, arith, pow_pos}
+use Rattle.std.specs.Prelude.{◌≡◌, ℕ, ◌/◌, ◌%◌, ◌^◌, ◌<◌, List, [], ◌∷◌, bit_xor, refl}
+use Rattle.std.proofs.Common.{◌∙◌, ap, arith, pow_pos}
 use Rattle.std.proofs.lemmas.Nat.{div-add-mod', div-mul-add, mod-mul-add, div_below, mod_below, mul-add-lt, xor_lt}
 use Rattle.shuffle.specs.declared.feistel.Halves.{Halves}
 use Rattle.shuffle.specs.Permutations.{Undoes}

@@ -1,7 +1,7 @@
 -- Powers of four as powers of two, and exclusive or: 4 ^ n is 2 ^ (n + n) by induction, a sum of exponents is a product of powers,
 -- and a number xored twice with the same number is itself.
 use Rattle.std.specs.Prelude.{◌≡◌, ℕ, zero, suc, ◌+◌, ◌*◌, ◌%◌, ◌^◌, ◌<◌, ◌≤◌, bit_xor, refl}
-use Rattle.std.proofs.Common.{sym, ◌∙◌, ap, arith, pow-suc, pow-add, pow_mono}
+use Rattle.std.proofs.Common.{◌∙◌, ap, arith, pow-suc, pow-add, pow_mono}
 use Rattle.std.specs.Int.Bits.{xor_assoc, xor_self, xor_zero_r}
 use Rattle.std.proofs.lemmas.Nat.{mul-le}
 

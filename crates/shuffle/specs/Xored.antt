@@ -1,5 +1,5 @@
 -- Xoring with a number of n bits keeps n bits, and doing it twice changes nothing: so the key shuffle is its own undoing.
-use Rattle.std.specs.Prelude.{◌≡◌, ℕ, ◌%◌, ◌^◌, ◌<◌, ◌≤◌, bit_xor}
+use Rattle.std.specs.Prelude.{ℕ, ◌%◌, ◌^◌, ◌<◌, ◌≤◌, bit_xor}
 use Rattle.std.proofs.Common.{arith, pow_pos, pow_mono}
 use Rattle.std.proofs.lemmas.Nat.{mod_below, xor_lt}
 use Rattle.shuffle.specs.Permutations.{Undoes}

@@ -1,8 +1,7 @@
 -- The front that has no stop grows until one is met.
-use Rattle.std.proofs.Common.{◌+◌, ◌-◌, arith, length-drop}
+use Rattle.std.proofs.Common.{◌+◌, arith, length-drop}
 use native.Mathlib.Nat.{sub-zero}
 use Rattle.std.proofs.lemmas.List.{take_rest}
-use Rattle.compose.specs.Pieces.{pieces}
 use Rattle.compose.proofs.Cutting.{led_none, led_more, led_stop, led_all}
 use Rattle.compose.proofs.text.cut.Goals as goal
 

@@ -1,5 +1,5 @@
 -- At the gap, before it and past it.
-use Rattle.std.proofs.Common.{◌≡◌, ◌+◌, ◌-◌, ◌%◌, Some, sym, ap, ◌∙◌, arith}
+use Rattle.std.proofs.Common.{◌+◌, ◌-◌, ◌%◌, Some, sym, ap, ◌∙◌, arith}
 use Rattle.startgap.proofs.Rows.{holder_none, holder_some, line_low, line_high}
 use Rattle.gap.proofs.layer.holder_in_row.Goals as goal
 use Rattle.gap.proofs.layer.holder_in_row.Goals.{then-place-row-2, else-place-row-2}

@@ -1,9 +1,8 @@
-use Rattle.std.proofs.Common.{◌≡◌, ℕ, List, [], ◌∷◌, length, replicate, sym, refl, ap, ◌∙◌, arith, rules}
+use Rattle.std.proofs.Common.{◌≡◌, [], ◌∷◌, length, replicate, refl, ap, ◌∙◌, arith, rules}
 use Rattle.line.specs.declared.load.Load.{Load}
-use Rattle.medium.specs.Array.{Array, after}
 use Rattle.media.specs.declared.bytes.ByteMedium.{ByteMedium}
 use Rattle.reader.specs.Reading.{requests_from}
-use Rattle.runner.specs.OnBytes.{Memory, array_in, memory_after, byte_totals}
+use Rattle.runner.specs.OnBytes.{Memory, array_in, byte_totals}
 use Rattle.runner.specs.Playing.{calls_of}
 use Rattle.runner.proofs.Bytewise.{bytes_run, totals_are, same_memory}
 use Rattle.runner.proofs.on_bytes.on_bytes.Goals as goal

@@ -1,6 +1,6 @@
-use Rattle.std.proofs.Common.{◌≡◌, ℕ, ◌+◌, ◌-◌, ◌<◌, ◌≤◌, length, sym, refl, ap, ◌∙◌, arith}
+use Rattle.std.proofs.Common.{◌≡◌, ◌-◌, ◌<◌, length, refl, ◌∙◌, arith}
 use Rattle.reader.proofs.Walk.{end_is}
-use Rattle.runner.proofs.Plays.{Carried, carried_none, carried_sound, carried_more, carried_all, whole_from}
+use Rattle.runner.proofs.Plays.{carried_none, carried_sound, carried_more, carried_all, whole_from}
 use Rattle.runner.proofs.play.carry_out.Goals as goal
 
 pub loop-i-init : goal.loop-i-init

@@ -1,4 +1,4 @@
-use Rattle.std.proofs.Common.{◌≡◌, ℕ, ◌+◌, ◌-◌, ◌*◌, ◌≤◌, List, ◌++◌, map, length, take, drop, replicate, is_err, Ok, Err, Result, sym, ap, ◌∙◌, subst, arith}
+use Rattle.std.proofs.Common.{◌≡◌, ℕ, ◌+◌, ◌-◌, ◌*◌, ◌≤◌, List, ◌++◌, map, length, take, drop, is_err, Err, Result, sym, ap, ◌∙◌, subst, arith}
 use native.Mathlib.Nat.{sub-zero}
 use Rattle.std.proofs.lemmas.Result.{err_from_is_err_and, IfOk-from_err}
 use Rattle.runfile.specs.declared.fault.Fault.{Fault}
@@ -6,9 +6,8 @@ use Rattle.runfile.specs.declared.slot.Slot.{Slot}
 use Rattle.reader.specs.Reading.{Reading, reading, requests_from, requests_fault, slots_after}
 use Rattle.runfile.specs.Slots.{slot_at}
 use Rattle.reader.proofs.Questions.{ready}
-use Rattle.runner.specs.OnBytes.{Memory}
 use Rattle.runner.specs.Playing.{calls_of}
-use Rattle.runner.specs.Runs.{surveyed, totals_of, slots_left, bytes_left, counts_left, ArrayHeld}
+use Rattle.runner.specs.Runs.{totals_of, slots_left, bytes_left, counts_left, ArrayHeld}
 use Rattle.runner.specs.declared.totals.Totals.{Totals}
 use Rattle.runner.proofs.Wholeruns.{surveyed_ok, surveyed_broke, lent_fits, lent_slots, kept_slots, lent_number, whole_totals, whole_slots, whole_bytes, whole_counts, whole_array, first_is}
 use Rattle.runner.proofs.run.run_on_bytes.Goals as goal

@@ -1,5 +1,4 @@
 use mathlib.Core.Path.{◌≡◌, refl, ◌∙◌}
-use Prim.Native.Nat.{min}
 use native.Mathlib.Omega.{arith}
 use Rattle.medium.proofs.Fittings.{lasts, leads, evenly}
 use Rattle.medium.proofs.Piles.{ran_none, ran_push, rest_push, ran_books, ran_upto, rest_upto}

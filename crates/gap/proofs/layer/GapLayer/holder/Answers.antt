@@ -1,5 +1,5 @@
 -- By the parts of the place, and the row of its region.
-use Rattle.std.proofs.Common.{◌≡◌, ℕ, ◌+◌, ◌*◌, ◌<◌, ◌≤◌, length, get_or, Some, None, sym, refl, ap, ◌∙◌, arith}
+use Rattle.std.proofs.Common.{◌+◌, ◌*◌, length, get_or, Some, None, sym, arith}
 use Rattle.startgap.specs.Regions.{no_row}
 use Rattle.startgap.proofs.Regions.{holder_past}
 use Rattle.gap.specs.Fields.{registers_of}

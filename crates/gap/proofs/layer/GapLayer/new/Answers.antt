@@ -1,6 +1,5 @@
 -- By the survey's answer.
-use Rattle.std.proofs.Common.{◌≡◌, ℕ, ◌+◌, ◌-◌, ◌*◌, ◌/◌, ◌<◌, ◌≤◌, true, false, length, replicate, is_err, sym, refl, ap, ◌∙◌, subst, div-le_self, arith}
-use Rattle.startgap.specs.declared.row.Row.{Row}
+use Rattle.std.proofs.Common.{◌≡◌, ◌-◌, ◌/◌, ◌<◌, ◌≤◌, true, false, length, replicate, is_err, sym, refl, ap, ◌∙◌, div-le_self, arith}
 use Rattle.startgap.specs.Regions.{total_due}
 use Rattle.startgap.specs.Rows.{new_row}
 use Rattle.startgap.proofs.Regions.{sizes}

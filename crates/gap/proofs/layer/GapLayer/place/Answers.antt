@@ -1,5 +1,5 @@
 -- The line's region has a row, and the place in it is the row's.
-use Rattle.std.proofs.Common.{◌≡◌, ℕ, ◌+◌, ◌*◌, ◌/◌, ◌%◌, ◌<◌, get_or, sym, refl, ap, ◌∙◌, mod-lt, arith}
+use Rattle.std.proofs.Common.{ℕ, ◌+◌, ◌*◌, get_or, ap, ◌∙◌, arith}
 use Rattle.startgap.specs.Regions.{gap_place, no_row}
 use Rattle.startgap.specs.Rows.{row_place}
 use Rattle.startgap.proofs.Regions.{region_below}

@@ -1,6 +1,6 @@
 -- Denials alter nothing. Otherwise the write below is accepted, as the life pays for it, and so is a due copy; what follows is as the
 -- lemmas on counted writes and on moves have it.
-use Rattle.std.proofs.Common.{◌≡◌, ◌+◌, ◌-◌, ◌*◌, ◌/◌, ◌<◌, ◌≤◌, List, [], ◌∷◌, length, Some, sym, refl, ap, ◌∙◌, subst, arith}
+use Rattle.std.proofs.Common.{◌≡◌, ◌+◌, ◌*◌, ◌/◌, ◌<◌, [], ◌∷◌, length, Some, refl, ap, ◌∙◌, subst, arith}
 use Rattle.startgap.specs.Regions.{region_copy}
 use Rattle.startgap.proofs.Regions.{region_below}
 use Rattle.startgap.proofs.Writes.{copy_to_below, copy_from_below}

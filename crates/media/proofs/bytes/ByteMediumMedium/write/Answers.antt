@@ -1,5 +1,4 @@
-use Rattle.std.proofs.Common.{◌≡◌, ℕ, ◌+◌, ◌*◌, ◌<◌, ◌≤◌, List, [], ◌∷◌, length, get_or, set, sum, sym, refl, ap, ◌∙◌, arith}
-use base.Fml.{GName}
+use Rattle.std.proofs.Common.{◌≡◌, ℕ, ◌+◌, ◌*◌, ◌<◌, ◌≤◌, List, [], ◌∷◌, length, get_or, set, sym, refl, ap, ◌∙◌, arith}
 use Rattle.medium.proofs.Piles.{served_bottom}
 use Rattle.medium.proofs.Arrays.{wrote_denied, denies_line, denies_life}
 use Rattle.media.specs.Bytes.{lines_in}

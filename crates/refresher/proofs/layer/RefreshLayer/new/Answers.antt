@@ -1,4 +1,4 @@
-use Rattle.std.proofs.Common.{◌≡◌, ℕ, ◌+◌, ◌-◌, ◌/◌, ◌%◌, ◌<◌, ◌≤◌, true, false, length, get_or, replicate, is_err, sym, refl, ap, ◌∙◌, mod-lt, arith}
+use Rattle.std.proofs.Common.{◌≡◌, ◌+◌, ◌-◌, ◌/◌, ◌%◌, ◌<◌, ◌≤◌, true, false, length, get_or, replicate, is_err, sym, refl, ap, ◌∙◌, mod-lt, arith}
 use Rattle.refresh.specs.declared.round.Round.{Round}
 use Rattle.refresh.specs.Life.{life_of}
 use Rattle.refresh.specs.Powers.{greatest_power}

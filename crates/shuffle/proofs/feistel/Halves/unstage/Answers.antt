@@ -1,6 +1,4 @@
 -- The round function answers a number of the half's width, so undoing a stage keeps the width.
-use Rattle.std.proofs.Common.{◌≡◌, sym, ap}
-use Rattle.shuffle.specs.declared.feistel.Halves.{Halves}
 use Rattle.shuffle.specs.Feistel.{round}
 use Rattle.shuffle.specs.Rounds.{round_narrow}
 use Rattle.shuffle.specs.Networks.{unstage_is}
