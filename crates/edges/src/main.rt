@@ -4,12 +4,12 @@
 
 mod files;
 mod kinds;
-mod media;
+mod two_media;
 
 fn main(rt: HostRuntime) -> anyhow::Result<()> {
     kinds::kinds(&rt)?;
-    media::surveys(&rt)?;
-    media::writes(&rt)?;
+    two_media::surveys(&rt)?;
+    two_media::writes(&rt)?;
     files::lengths(&rt)?;
     files::trailers(&rt)?;
     files::settings(&rt)?;

@@ -4,7 +4,7 @@
 use Rattle.std.proofs.Common.{◌≡◌, ℕ, ◌+◌, ◌*◌, ◌/◌, ◌^◌, ◌<◌, ◌≤◌, true, false, cond, leb, ◌⊎◌, List, [], ◌∷◌, ◌++◌, length, get_or, is_err, Some, None, Ok, Err, Option, Result, sym, refl, ap, ◌∙◌, subst, inl, inr, ⊎_elim, arith}
 use Rattle.std.proofs.lemmas.List.{length-set}
 use Rattle.std.proofs.lemmas.Bool.{cases_lt}
-use Rattle.std.specs.List.{AllByRecursion as All}
+use Rattle.std.specs.List.{AllByRecursion}
 use Rattle.line.specs.declared.denial.Denial.{Denial}
 use Rattle.line.specs.declared.denial.Denial.TheVariants.{NoSuchLine}
 use Rattle.startgap.specs.Regions as startgap
@@ -83,24 +83,24 @@ unfoldable written_lines : {A : Type 0} → Array A → List (Call A) → List �
 written_lines a [] = []
 written_lines a (c ∷ cs) = unless_denied (denied_by a c) (line_by c) [] ++ written_lines (next a c) cs
 
-all_append : (P : ℕ → Type 0) (xs ys : List ℕ) → All P xs → All P ys → All P (xs ++ ys)
+all_append : (P : ℕ → Type 0) (xs ys : List ℕ) → AllByRecursion P xs → AllByRecursion P ys → AllByRecursion P (xs ++ ys)
 all_append P [] ys h k = k
 all_append P (x ∷ xs) ys h k = (h.0, all_append P xs ys h.1 k)
 
-line_below : {A : Type 0} (a : Array A) (c : Call A) (n : ℕ) → length a.lines ≡ n → All (λ i. i < n) (unless_denied (denied_by a c) (line_by c) [])
+line_below : {A : Type 0} (a : Array A) (c : Call A) (n : ℕ) → length a.lines ≡ n → AllByRecursion (λ i. i < n) (unless_denied (denied_by a c) (line_by c) [])
 unfolding line_by
-line_below a (Read i) n e = elim (denied_by a (Read i)) as (λ o. All (λ j. j < n) (unless_denied o [] [])) [ None ↦ tt | Some d ↦ tt ]
+line_below a (Read i) n e = elim (denied_by a (Read i)) as (λ o. AllByRecursion (λ j. j < n) (unless_denied o [] [])) [ None ↦ tt | Some d ↦ tt ]
 line_below a (Write i v) n e =
     ⊎_elim
     (λ (h : denied_by a (Write i v) ≡ None).
     let l = accepted_below a i v h in
-    let P : Option Denial → Type 0 = λ o. All (λ j. j < n) (unless_denied o (i ∷ []) []) in
+    let P : Option Denial → Type 0 = λ o. AllByRecursion (λ j. j < n) (unless_denied o (i ∷ []) []) in
     subst P (sym h) (omega arith, tt))
     (λ (h : (d : Denial) × (denied_by a (Write i v) ≡ Some d)).
-    let P : Option Denial → Type 0 = λ o. All (λ j. j < n) (unless_denied o (i ∷ []) []) in subst P (sym h.1) tt)
+    let P : Option Denial → Type 0 = λ o. AllByRecursion (λ j. j < n) (unless_denied o (i ∷ []) []) in subst P (sym h.1) tt)
     (which (denied_by a (Write i v)))
 
-lines_below : {A : Type 0} (a : Array A) (cs : List (Call A)) (n : ℕ) → length a.lines ≡ n → All (λ i. i < n) (written_lines a cs)
+lines_below : {A : Type 0} (a : Array A) (cs : List (Call A)) (n : ℕ) → length a.lines ≡ n → AllByRecursion (λ i. i < n) (written_lines a cs)
 unfolding written_lines
 lines_below a [] n e = tt
 lines_below a (c ∷ cs) n e = all_append (λ i. i < n) _ _ (line_below a c n e) (lines_below (next a c) cs n ((next_keeps a c).0 ∙ e))
@@ -152,26 +152,26 @@ layer_sound s a c k =
     subst (λ m. SoundFor (unless_denied (denied_by a c) (turned_by s c) s) m) (sym e) here
 
 -- ---- each copy reads the place of the line that it moves
-exchange_reads : (g : Registers) → g.round.pointer < refreshing.pointer_mate g.round → All (λ k. place_of g.round k.moved ≡ k.from) (refreshing.exchange g.round)
+exchange_reads : (g : Registers) → g.round.pointer < refreshing.pointer_mate g.round → AllByRecursion (λ k. place_of g.round k.moved ≡ k.from) (refreshing.exchange g.round)
 exchange_reads g h = (refreshes.mate_before g.round h, (refreshes.line_before g.round h, tt))
 
-write_reads : (s : Layer) (n i : ℕ) → i < n → SoundFor s n → All (λ k. place s k.moved ≡ k.from) (due_copies s i)
+write_reads : (s : Layer) (n i : ℕ) → i < n → SoundFor s n → AllByRecursion (λ k. place s k.moved ≡ k.from) (due_copies s i)
 write_reads (scatter m f) n i h k = tt
 write_reads (gaps g) n i h k =
     let k1 = k.1 in
     All-weaker (Carries g (i / g.size)) (λ c. gap_place g c.moved ≡ c.from) (λ c q. q.reads) (startgap.write_copies g i) (runs.write_carries g k.0 i (omega arith))
 write_reads (refresh g) n i h k =
     ⊎_elim
-    (λ (w : g.due + 1 < g.interval). subst (λ ks. All (λ c. place_of g.round c.moved ≡ c.from) ks) (sym (writes.write_waits g w).1) tt)
+    (λ (w : g.due + 1 < g.interval). subst (λ ks. AllByRecursion (λ c. place_of g.round c.moved ≡ c.from) ks) (sym (writes.write_waits g w).1) tt)
     (λ (w : g.interval ≤ g.due + 1).
-    subst (λ ks. All (λ c. place_of g.round c.moved ≡ c.from) ks) (sym (writes.write_refreshes g w).1)
+    subst (λ ks. AllByRecursion (λ c. place_of g.round c.moved ≡ c.from) ks) (sym (writes.write_refreshes g w).1)
     (⊎_elim
-    (λ (m : g.round.pointer < refreshing.pointer_mate g.round). subst (λ ks. All (λ c. place_of g.round c.moved ≡ c.from) ks) (sym (refreshes.copies_two g.round m)) (exchange_reads g m))
-    (λ (m : refreshing.pointer_mate g.round ≤ g.round.pointer). subst (λ ks. All (λ c. place_of g.round c.moved ≡ c.from) ks) (sym (refreshes.copies_none g.round m)) tt)
+    (λ (m : g.round.pointer < refreshing.pointer_mate g.round). subst (λ ks. AllByRecursion (λ c. place_of g.round c.moved ≡ c.from) ks) (sym (refreshes.copies_two g.round m)) (exchange_reads g m))
+    (λ (m : refreshing.pointer_mate g.round ≤ g.round.pointer). subst (λ ks. AllByRecursion (λ c. place_of g.round c.moved ≡ c.from) ks) (sym (refreshes.copies_none g.round m)) tt)
     (cases_lt g.round.pointer (refreshing.pointer_mate g.round))))
     (cases_lt (g.due + 1) g.interval)
 
-call_reads : {A : Type 0} (s : Layer) (a : Array A) (c : Call A) → SoundFor s (length a.lines) → denied_by a c ≡ None → All (λ k. place s k.moved ≡ k.from) (copies_by s c)
+call_reads : {A : Type 0} (s : Layer) (a : Array A) (c : Call A) → SoundFor s (length a.lines) → denied_by a c ≡ None → AllByRecursion (λ k. place s k.moved ≡ k.from) (copies_by s c)
 call_reads s a (Read i) k h = tt
 call_reads s a (Write i v) k h = write_reads s (length a.lines) i (accepted_below a i v h) k
 
@@ -181,7 +181,7 @@ carried s a [] k = tt
 carried s a (c ∷ cs) k = (call_reads s a c k, carried (layer_at s a c) (next a c) cs (layer_sound s a c k))
 
 -- a layer without lines copies nothing
-idle_reads : {A : Type 0} (s : Layer) (a : Array A) (c : Call A) → length a.lines ≡ 0 → denied_by a c ≡ None → All (λ k. place s k.moved ≡ k.from) (copies_by s c)
+idle_reads : {A : Type 0} (s : Layer) (a : Array A) (c : Call A) → length a.lines ≡ 0 → denied_by a c ≡ None → AllByRecursion (λ k. place s k.moved ≡ k.from) (copies_by s c)
 idle_reads s a (Read i) e h = tt
 idle_reads s a (Write i v) e h = let l = accepted_below a i v h in absurd (omega arith)
 
@@ -190,7 +190,7 @@ unfolding Carried
 idle_carried s a [] e = tt
 idle_carried s a (c ∷ cs) e = (idle_reads s a c e, idle_carried (layer_at s a c) (next a c) cs ((next_keeps a c).0 ∙ e))
 
-no_lines : (is : List ℕ) → All (λ i. i < 0) is → is ≡ []
+no_lines : (is : List ℕ) → AllByRecursion (λ i. i < 0) is → is ≡ []
 no_lines [] h = refl
 no_lines (i ∷ is) h = let l = h.0 in absurd (omega arith)
 

@@ -1,6 +1,6 @@
 -- What a layer shows: its lines are found again at their places, its life is paid for, and what it asked below is what the definitions say.
 use Rattle.std.proofs.Common.{◌≡◌, ℕ, zero, suc, ◌<◌, ◌≤◌, cond, ◌≢◌, List, [], ◌∷◌, ◌++◌, map, length, get_or, take, set, Some, None, Ok, Option, sym, refl, ap, ◌∙◌, subst, ⊎_elim, arith}
-use Rattle.std.specs.List.{range_with_len, AllByRecursion as All}
+use Rattle.std.specs.List.{range_with_len, AllByRecursion}
 use Rattle.std.proofs.lemmas.Bool.{le-leb, lt-leb, cases_lt, cases_eq}
 use Rattle.std.proofs.lemmas.List.{drop_more, length-take, length-drop, length-append, length-set, get_or-set_same, get_or-set_other, same_lists}
 use Rattle.std.proofs.lemmas.List.FromFn.{length-map-range_with_len, get_or-map-range_with_len}
@@ -18,20 +18,20 @@ module _ {A : Type 0} (ls : List A) where
   gathered_cons : (p : ℕ) (ps : List ℕ) (d : A) → p < length ls → gathered ls (p ∷ ps) ≡ get_or ls p d ∷ gathered ls ps
   gathered_cons p ps d h = ap (λ x. take 1 x ++ gathered ls ps) (drop_more ls p d h)
 
-  length_gathered : (ps : List ℕ) → All (λ p. p < length ls) ps → length (gathered ls ps) ≡ length ps
+  length_gathered : (ps : List ℕ) → AllByRecursion (λ p. p < length ls) ps → length (gathered ls ps) ≡ length ps
   length_gathered [] h = refl
   length_gathered (p ∷ ps) h =
       let k = length_gathered ps h.1 in
       let l = h.0 in
       simp (length-append, length-take, length-drop) (omega arith)
 
-  getD_gathered : (ps : List ℕ) (i : ℕ) (d : A) → All (λ p. p < length ls) ps → i < length ps → get_or (gathered ls ps) i d ≡ get_or ls (get_or ps i 0) d
+  getD_gathered : (ps : List ℕ) (i : ℕ) (d : A) → AllByRecursion (λ p. p < length ls) ps → i < length ps → get_or (gathered ls ps) i d ≡ get_or ls (get_or ps i 0) d
   getD_gathered [] i d h k = absurd (omega arith)
   getD_gathered (p ∷ ps) zero d h k = ap (λ x. get_or x 0 d) (gathered_cons p ps d h.0)
   getD_gathered (p ∷ ps) (suc i) d h k = ap (λ x. get_or x (suc i) d) (gathered_cons p ps d h.0) ∙ getD_gathered ps i d h.1 (omega arith)
 
 module _ {A : Type 0} (n need : ℕ) (f : ℕ → ℕ) (stays : (i : ℕ) → i < n → f i < need) where
-  within : (ls : List A) → need ≤ length ls → All (λ p. p < length ls) (map f (range_with_len 0 n))
+  within : (ls : List A) → need ≤ length ls → AllByRecursion (λ p. p < length ls) (map f (range_with_len 0 n))
   within ls h = All-from_get_or (λ p. p < length ls) (map f (range_with_len 0 n)) 0 (λ i k.
       let l : i < n = subst (λ x. i < x) (length-map-range_with_len f 0 n) k in
       let e = get_or-map-range_with_len f 0 n i i 0 l (omega arith) in

@@ -1,6 +1,6 @@
 -- The law of every pile over every succession of calls: as a flat array, with books that balance, and evenly. Assumes nothing.
 use Rattle.std.specs.Prelude.{◌≡◌, ℕ, ◌+◌, ◌-◌, ◌*◌, ◌%◌, ◌^◌, ◌<◌, ◌≤◌, ◌⊎◌, List, [], ◌∷◌, ◌++◌, map, length, None, Ok, Err, Result, slice_index_or}
-use Rattle.std.specs.List.{AllByRecursion as All}
+use Rattle.std.specs.List.{AllByRecursion}
 use Rattle.line.specs.Copies.{Copy}
 use Rattle.line.specs.declared.denial.Denial.{Denial as Denied-by}
 use Rattle.line.specs.declared.denial.Denial.TheVariants.{LifeUsed}
@@ -77,7 +77,7 @@ copied s a (c ∷ cs) = unless_denied (denied_by a c) (copies_by s c) [] ++ copi
 -- each copy reads the place of the line that it moves
 unfoldable pub Carried : {A : Type 0} → Layer → Array A → List (Call A) → Type 0
 Carried s a [] = Unit {0}
-Carried s a (c ∷ cs) = (denied_by a c ≡ None → All (λ k. place s k.moved ≡ k.from) (copies_by s c)) × Carried (layer_at s a c) (next a c) cs
+Carried s a (c ∷ cs) = (denied_by a c ≡ None → AllByRecursion (λ k. place s k.moved ≡ k.from) (copies_by s c)) × Carried (layer_at s a c) (next a c) cs
 
 -- in each region the moves of any two lines differ by at most one, and so do the copies into any two places
 abbrev pub EvenCopies : Layer → List Copy → Type 0

@@ -4,7 +4,7 @@ use Rattle.std.proofs.Common.{◌≡◌, ℕ, zero, suc, ◌<◌, ◌≤◌, con
 use lib.Bits.{bit_xor}
 use Rattle.std.proofs.lemmas.Bool.{cases_lt, cases_eq, eq-eqb, ne_eqb}
 use Rattle.std.proofs.lemmas.List.{length-set, get_or-set_same, get_or-set_other}
-use Rattle.std.specs.List.{AllByRecursion as All}
+use Rattle.std.specs.List.{AllByRecursion}
 use Rattle.refresh.specs.declared.round.Round.{Round}
 use Rattle.line.specs.Copies.{after_copies}
 use Rattle.refresh.specs.Refresh.{pointer_mate, previous_place, current_place, mate_of, place_of, holder_at, advanced, refreshed, refresh_copies, after_refreshes, held_after, Sound}
@@ -163,11 +163,11 @@ one_refresh n keys w s =
       end_unmoved = λ l. end_stays n keys w (omega arith);
       carried = ⊎_elim
           (λ (m : r < mate_of w r).
-          subst (λ ks. All (Carried n w (refreshed n keys w)) ks) (sym (copies_two w m)) (
+          subst (λ ks. AllByRecursion (Carried n w (refreshed n keys w)) ks) (sym (copies_two w m)) (
             carries (mate_of w r) (bit_xor r w.current) (bit_xor r w.previous) hm (mate_before w m) (to (mate_of w r) hm ∙ mate_after w m) (λ q. two_places w m (sym q)),
             (carries r (bit_xor r w.previous) (bit_xor r w.current) hr (line_before w m) (to r hr ∙ line_after w m) (two_places w m), tt),
           ))
-          (λ (m : mate_of w r ≤ r). subst (λ ks. All (Carried n w (refreshed n keys w)) ks) (sym (copies_none w m)) tt)
+          (λ (m : mate_of w r ≤ r). subst (λ ks. AllByRecursion (Carried n w (refreshed n keys w)) ks) (sym (copies_none w m)) tt)
           (cases_lt r (mate_of w r));
       kept = refresh_keeps n keys w;
     }

@@ -1,6 +1,6 @@
 -- What is proved of the definitions. Assumes nothing.
 use Rattle.std.specs.Prelude.{◌≡◌, ℕ, ◌+◌, ◌*◌, ◌/◌, ◌%◌, ◌<◌, ◌≤◌, ◌≢◌, ◌⊎◌, List, [], ◌∷◌, map, length, Some, None, bit_xor}
-use Rattle.std.specs.List.{AllByRecursion as All}
+use Rattle.std.specs.List.{AllByRecursion}
 use Rattle.refresh.specs.declared.round.Round.{Round}
 use Rattle.line.specs.Copies.{Copy, after_copies}
 use Rattle.refresh.specs.Powers.{PowerOfTwo, GreatestPower, greatest_power}
@@ -69,7 +69,7 @@ pub record OneRefresh (n : ℕ) (keys : List ℕ) (w : Round) : Type 0 where
   pub ended : w.pointer + 1 ≡ n → refreshed n keys w ≡ next_round n keys w
   pub end_unmoved : w.pointer + 1 ≡ n → (a : ℕ) → a < n → place_of (next_round n keys w) a ≡ place_of (advanced w) a
   -- each copy carries its line from where it lay to where it lies after
-  pub carried : All (Carried n w (refreshed n keys w)) (refresh_copies w)
+  pub carried : AllByRecursion (Carried n w (refreshed n keys w)) (refresh_copies w)
   -- and with both reads before the first write, each line keeps what it held
   pub kept :
       (held : ℕ → ℕ) (a : ℕ) → a < n

@@ -2,7 +2,7 @@
 -- so a number of writes is paid for, whatever the lines, exactly where d + d / interval is at most what is left.
 use Rattle.std.proofs.Common.{◌≡◌, ℕ, zero, suc, ◌+◌, ◌*◌, ◌/◌, ◌<◌, ◌≤◌, Bool, true, false, cond, eqb, List, [], ◌∷◌, length, replicate, refl, ap, ⊎_elim, mul-le-mul_right, add-mul, le-div_iff_mul-le, div-mul-le_self, arith}
 use native.Mathlib.Nat.{zero-div}
-use Rattle.std.specs.List.{AllByRecursion as All}
+use Rattle.std.specs.List.{AllByRecursion}
 use Rattle.std.proofs.lemmas.Bool.{cases_lt, eq-eqb}
 use Rattle.line.specs.Copies.{Copy, times}
 use Rattle.startgap.specs.Regions.{new_gaps, AllLines, gaps_after, gaps_copies}
@@ -51,7 +51,7 @@ move_paid life taken copies interval dues due hi e d m h =
     (le-div_iff_mul-le {k = interval} {x = copies + 1} {y = life} hi).1 (let p = add-mul copies 1 interval in omega arith)
 
 -- ---- writes to line 0 alone
-all_zero : (n d : ℕ) → 0 < n → All (λ line. line < n) (replicate d 0)
+all_zero : (n d : ℕ) → 0 < n → AllByRecursion (λ line. line < n) (replicate d 0)
 all_zero n zero h = tt
 all_zero n (suc d) h = (h, all_zero n d h)
 

@@ -4,7 +4,7 @@
 use Rattle.std.proofs.Common.{◌≡◌, ℕ, ◌+◌, ◌-◌, ◌*◌, ◌/◌, ◌%◌, ◌<◌, ◌≤◌, cond, ◌≢◌, ◌⊎◌, List, [], ◌∷◌, ◌++◌, length, sym, refl, ap, ◌∙◌, subst, inl, inr, ⊎_elim, mod-lt, add-mul, div-add-mod', arith}
 use native.Mathlib.Nat.{mod-add-mod, zero-mod, zero-div}
 use lib.Arith.{digits_div, digits_mod}
-use Rattle.std.specs.List.{AllByRecursion as All}
+use Rattle.std.specs.List.{AllByRecursion}
 use Rattle.std.proofs.lemmas.List.{length-append, get_or_append_left, get_or-append_right}
 use Rattle.std.proofs.ByRecursion.{All-get_or}
 use Rattle.std.proofs.lemmas.List.Sums.{get_or-le-sum_by}
@@ -94,12 +94,12 @@ after_made g (line ∷ lines) =
     omega arith
 
 -- ---- each copy carries its line
-pub write_carries : (g : Gaps) → GapsSound g → (line : ℕ) → line < line_count g → All (Carries g (line / g.size)) (write_copies g line)
+pub write_carries : (g : Gaps) → GapsSound g → (line : ℕ) → line < line_count g → AllByRecursion (Carries g (line / g.size)) (write_copies g line)
 write_carries g s line h = ⊎_elim
     (λ (e : (row_at g (line / g.size)).due + 1 ≡ g.interval).
-    subst (All (Carries g (line / g.size))) (sym (write_moves g line e).1) (copy_carries g s (line / g.size) (line_region g s line h), tt))
+    subst (AllByRecursion (Carries g (line / g.size))) (sym (write_moves g line e).1) (copy_carries g s (line / g.size) (line_region g s line h), tt))
     (λ (ne : (row_at g (line / g.size)).due + 1 ≢ g.interval).
-    subst (All (Carries g (line / g.size))) (sym (write_counts g line ne).1) tt)
+    subst (AllByRecursion (Carries g (line / g.size))) (sym (write_counts g line ne).1) tt)
     (cases_eq ((row_at g (line / g.size)).due + 1) g.interval)
 
 -- a copy of the first write, and one of a later write

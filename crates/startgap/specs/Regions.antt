@@ -1,6 +1,6 @@
 -- A layer of gap regions: its registers, where each line is, which line is at each place, and what accepted writes make of them. Assumes nothing.
 use Rattle.std.specs.Prelude.{ℕ, ◌+◌, ◌-◌, ◌*◌, ◌/◌, ◌%◌, ◌<◌, ◌≤◌, cond, List, [], ◌∷◌, ◌++◌, length, replicate, Some, None, sum_by, Option, nat_lt, slice_index_or, slice_set}
-use Rattle.std.specs.List.{AllByRecursion as All}
+use Rattle.std.specs.List.{AllByRecursion}
 use Rattle.startgap.specs.declared.row.Row.{Row}
 use Rattle.line.specs.Copies.{Copy, times}
 use Rattle.startgap.specs.Rows.{RowSound, new_row, row_place, row_holder, row_from, row_next, move_due, row_after}
@@ -97,7 +97,7 @@ after_write g line =
 
 -- ---- accepted writes, in their order, by the lines that they write
 abbrev pub AllLines : Gaps → List ℕ → Type 0
-AllLines g lines = All (λ line. line < line_count g) lines
+AllLines g lines = AllByRecursion (λ line. line < line_count g) lines
 
 -- the registers after them
 unfoldable pub gaps_after : Gaps → List ℕ → Gaps
