@@ -3,7 +3,8 @@
 
 usage: python3 tools/respell.py [--list]      at the top of the repository, once, after /opt/rattle/port/port.py
 
-A definition, lemma, field or constructor that this repository declares in specs/ or proofs/ and that has a dash in its name loses it:
+A definition, lemma, field or constructor that this repository declares in specs/ or proofs/, a name that a use brings one under, and a name
+that a let binds, lose the dash in their name:
 words become snake case (place-below: place_below), types, records and modules upper camel case (Made-over: MadeOver). Names of goals,
 which Rattle makes, and names of the library keep their dashes. Strings and comments of src/ stay as they are.
 With --list nothing is written: the new names are printed, and those that fall together.
@@ -56,6 +57,12 @@ def declared(texts):
             if "-" not in name or name in goals:
                 continue
             (own if not m.group(1) else fields).add(name)
+    for text in texts.values():
+        body = code_of(text)
+        # names that a use brings under, and that a let binds
+        for m in re.finditer(r"(?: as |\blet )(" + WORD + r")(?=\s*[,}:=])", body):
+            if "-" in m.group(1):
+                fields.add(m.group(1))
     return own, fields
 
 

@@ -2,7 +2,7 @@
 use Rattle.std.specs.Prelude.{◌≡◌, ℕ, ◌+◌, ◌-◌, ◌*◌, ◌%◌, ◌^◌, ◌<◌, ◌≤◌, ◌⊎◌, List, [], ◌∷◌, ◌++◌, map, length, None, Ok, Err, Result, slice_index_or}
 use Rattle.std.specs.List.{AllByRecursion}
 use Rattle.line.specs.Copies.{Copy}
-use Rattle.line.specs.declared.denial.Denial.{Denial as Denied-by}
+use Rattle.line.specs.declared.denial.Denial.{Denial as DeniedBy}
 use Rattle.line.specs.declared.denial.Denial.TheVariants.{LifeUsed}
 use Rattle.startgap.specs.Life as startgap
 use Rattle.startgap.specs.Regions.{Gaps, region_size, new_gaps, line_count, place_count, gap_place}
@@ -138,7 +138,7 @@ Unfit {A} a = a ≡ record { lines = []; taken = 0; life = 0 }
 
 -- the making of a layer over what means b, has the wear u and lies over t, by its survey: where that says yes it is the layer s, newly
 -- fitted; where it says no it is an unfit one; its wear is that below
-abbrev pub MadeOver : {A : Type 0} → Result (Unit {0}) Denied-by → Layer → Array A → ℕ → Pile A → Pile A → Array A → ℕ → Type 0
+abbrev pub MadeOver : {A : Type 0} → Result (Unit {0}) DeniedBy → Layer → Array A → ℕ → Pile A → Pile A → Array A → ℕ → Type 0
 MadeOver (Ok x) s b u t p a w = (p ≡ over s b u t) × New s a b × (w ≡ u)
 MadeOver (Err d) s b u t p a w = ((r : Layer) × (p ≡ over r b u t)) × Unfit a × (w ≡ u)
 

@@ -3,7 +3,7 @@
 use Rattle.std.proofs.Common.{◌≡◌, ℕ, ◌-◌, not, List, length, get_or, Some, None, Ok, Err, Option, Result, sym, refl, ap, ◌∙◌, arith}
 use Rattle.line.specs.declared.denial.Denial.TheVariants.{UnknownPile}
 use Rattle.runfile.specs.declared.fault.Fault.{Fault}
-use Rattle.runfile.specs.declared.fault.Stage.TheVariants.{Settings as in-settings}
+use Rattle.runfile.specs.declared.fault.Stage.TheVariants.{Settings as in_settings}
 use Rattle.reader.specs.declared.reader.Run.{Run}
 use Rattle.reader.specs.declared.reader.Trailer.{Trailer}
 use Rattle.runfile.specs.Faults.{faulted, or_then, or_fault}
@@ -26,15 +26,15 @@ first_fault {V} {W} o p v w e h =
 -- the letter's fault, where the trailer has none
 pub pile_fault : (f : List ℕ) (t : Trailer) (place letter : ℕ) (e : Fault)
     → ◌≡◌ {A = Result Trailer Fault} (Ok t) (or_fault (trailer_fault f) (trailer_of f)) → place ≡ length f - 16 - t.settings
-    → ◌≡◌ {A = Result ℕ Fault} (Err e) (or_fault (faulted (not (known_pile (get_or f place 0))) UnknownPile place in-settings) letter)
+    → ◌≡◌ {A = Result ℕ Fault} (Err e) (or_fault (faulted (not (known_pile (get_or f place 0))) UnknownPile place in_settings) letter)
     → ◌≡◌ {A = Result Run Fault} (Err e) (or_fault (settings_fault f) (run_of f))
 pile_fault f t place letter e ht hp he =
     let n = none_from_ok (trailer_fault f) t (trailer_of f) ht in
     let at : place ≡ settings_at f = hp ∙ ap (λ (x : Trailer). length f - 16 - x.settings) n.1 in
-    let q = some_from_err (faulted (not (known_pile (get_or f place 0))) UnknownPile place in-settings) letter e he in
-    let q' : faulted (not (known_pile (get_or f (settings_at f) 0))) UnknownPile (settings_at f) in-settings ≡ Some e =
-    sym (ap (λ (p : ℕ). faulted (not (known_pile (get_or f p 0))) UnknownPile p in-settings) at) ∙ q in
-    sym (ap (λ (o : Option Fault). or_fault {V = Run} (or_then o (faulted (not (known_pile (get_or f (settings_at f) 0))) UnknownPile (settings_at f) in-settings)) (run_of f)) n.0
+    let q = some_from_err (faulted (not (known_pile (get_or f place 0))) UnknownPile place in_settings) letter e he in
+    let q' : faulted (not (known_pile (get_or f (settings_at f) 0))) UnknownPile (settings_at f) in_settings ≡ Some e =
+    sym (ap (λ (p : ℕ). faulted (not (known_pile (get_or f p 0))) UnknownPile p in_settings) at) ∙ q in
+    sym (ap (λ (o : Option Fault). or_fault {V = Run} (or_then o (faulted (not (known_pile (get_or f (settings_at f) 0))) UnknownPile (settings_at f) in_settings)) (run_of f)) n.0
     ∙ ap (λ (o : Option Fault). or_fault {V = Run} o (run_of f)) q')
 
 -- the settings' fault is that of the whole

@@ -3,7 +3,7 @@ use Rattle.std.specs.Prelude.{◌≡◌, ℕ, zero, suc, ◌+◌, ◌-◌, cond,
 use Rattle.line.specs.Words.{at16, at32}
 use Rattle.line.specs.declared.denial.Denial.TheVariants.{FileLength, NoMark, BadDistances, UnknownPile, TooManyRequests, UnknownRequest, RequestCutShort, RequestsMiscounted}
 use Rattle.runfile.specs.declared.fault.Fault.{Fault}
-use Rattle.runfile.specs.declared.fault.Stage.TheVariants.{Trailer as in-trailer, Settings as in-settings, Request as in-request}
+use Rattle.runfile.specs.declared.fault.Stage.TheVariants.{Trailer as in_trailer, Settings as in_settings, Request as in_request}
 use Rattle.reader.specs.declared.reader.Run.{Run}
 use Rattle.reader.specs.declared.reader.Trailer.{Trailer}
 use Rattle.runfile.specs.declared.request.Request.{Request}
@@ -23,11 +23,11 @@ trailer_of f = record {
 
 abbrev pub trailer_fault : List ℕ → Option Fault
 trailer_fault f =
-    or_then (faulted (nat_lt (length f) 36) FileLength 0 in-trailer)
-    (or_then (faulted (nat_lt 65536 (length f)) FileLength 0 in-trailer)
-    (or_then (faulted (not (marked_at f (length f - 4))) NoMark (length f - 4) in-trailer)
-    (or_then (faulted (not (at32 f (length f - 16) == at32 f (length f - 12) + 20)) BadDistances (length f - 16) in-trailer)
-    (faulted (nat_lt (length f - 16) (at32 f (length f - 16))) BadDistances (length f - 16) in-trailer))))
+    or_then (faulted (nat_lt (length f) 36) FileLength 0 in_trailer)
+    (or_then (faulted (nat_lt 65536 (length f)) FileLength 0 in_trailer)
+    (or_then (faulted (not (marked_at f (length f - 4))) NoMark (length f - 4) in_trailer)
+    (or_then (faulted (not (at32 f (length f - 16) == at32 f (length f - 12) + 20)) BadDistances (length f - 16) in_trailer)
+    (faulted (nat_lt (length f - 16) (at32 f (length f - 16))) BadDistances (length f - 16) in_trailer))))
 
 -- the settings: their place, and the fault 11
 abbrev pub settings_at : List ℕ → ℕ
@@ -35,7 +35,7 @@ settings_at f = length f - 16 - at32 f (length f - 16)
 
 abbrev pub settings_fault : List ℕ → Option Fault
 settings_fault f =
-    or_then (trailer_fault f) (faulted (not (known_pile (slice_index f (settings_at f)))) UnknownPile (settings_at f) in-settings)
+    or_then (trailer_fault f) (faulted (not (known_pile (slice_index f (settings_at f)))) UnknownPile (settings_at f) in_settings)
 
 -- the request at a place: how many bytes it has, what it asks, and the faults 13 and 14. Where the requests are used up, that is the
 -- fault 15, at the trailer's number, 8 bytes past the end of the requests
@@ -48,13 +48,13 @@ ask_at f at =
 
 abbrev pub request_fault : List ℕ → ℕ → ℕ → Option Fault
 request_fault f at end =
-    or_then (faulted (nat_le end at) RequestsMiscounted (end + 8) in-trailer)
-    (or_then (faulted (not (slice_index f at == 114 || slice_index f at == 119)) UnknownRequest at in-request)
-    (faulted (nat_lt end (at + size_at f at)) RequestCutShort at in-request))
+    or_then (faulted (nat_le end at) RequestsMiscounted (end + 8) in_trailer)
+    (or_then (faulted (not (slice_index f at == 114 || slice_index f at == 119)) UnknownRequest at in_request)
+    (faulted (nat_lt end (at + size_at f at)) RequestCutShort at in_request))
 
 -- the first fault of the next k requests, which are to end at `end`
 abbrev pub requests_fault : List ℕ → ℕ → ℕ → ℕ → Option Fault
-requests_fault f at end zero = faulted (not (at == end)) RequestsMiscounted (end + 8) in-trailer
+requests_fault f at end zero = faulted (not (at == end)) RequestsMiscounted (end + 8) in_trailer
 requests_fault f at end (suc k) = or_then (request_fault f at end) (requests_fault f (at + size_at f at) end k)
 
 -- k requests from a place on
@@ -66,7 +66,7 @@ requests_from f at (suc k) = record { place = at; ask = ask_at f at } ∷ reques
 abbrev pub run_fault : List ℕ → ℕ → Option Fault
 run_fault f slots =
     or_then (settings_fault f)
-    (or_then (faulted (nat_lt slots (at32 f (length f - 8))) TooManyRequests (length f - 8) in-trailer)
+    (or_then (faulted (nat_lt slots (at32 f (length f - 8))) TooManyRequests (length f - 8) in_trailer)
     (requests_fault f (settings_at f + 20) (length f - 16) (at32 f (length f - 8))))
 
 abbrev pub run_of : List ℕ → Run

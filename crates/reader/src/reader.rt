@@ -8,7 +8,7 @@ ghost use Rattle.reader.specs.Laws.{Exact, OneMeaning, ReadBack};
 ghost use Rattle.runfile.specs.Layout.{known_pile, marked_at, settings_from};
 ghost use Rattle.reader.specs.Reading.{reading, requests_fault, requests_from, run_in, run_of, settings_fault, slots_after, trailer_fault, trailer_of, walk_end};
 ghost use Rattle.runfile.specs.Slots.{slot_at};
-ghost use Rattle.runfile.specs.declared.fault.Stage.TheVariants.{Settings as in-settings};
+ghost use Rattle.runfile.specs.declared.fault.Stage.TheVariants.{Settings as in_settings};
 
 use crate::requests::Requests;
 use line::denial::Denial;
@@ -101,7 +101,7 @@ pub fn read_trailer(file: &[u8]) -> Result<Trailer, Fault>
 
 // The pile's letter, which stands at a place. Denied with 11 where it is not A, B or C.
 fn read_pile(letter: u8, place: u32) -> Result<char, Fault>
-    ensures answer { result ≡ or_fault (faulted (not (known_pile letter)) UnknownPile place in-settings) letter }
+    ensures answer { result ≡ or_fault (faulted (not (known_pile letter)) UnknownPile place in_settings) letter }
 {
     match letter as char {
         'A' => Ok('A'),

@@ -3,14 +3,14 @@ use Rattle.std.specs.Prelude.{ℕ, Bool, cond, Some, None, Ok, Err, Option, Resu
 use Rattle.line.specs.declared.denial.Denial.{Denial}
 use Rattle.runfile.specs.declared.fault.Fault.{Fault}
 use Rattle.runfile.specs.declared.fault.Stage.{Stage}
-use Rattle.runfile.specs.declared.fault.Stage.TheVariants.{Trailer as in-trailer, Settings as in-settings, Request as in-request, Pile as in-pile}
+use Rattle.runfile.specs.declared.fault.Stage.TheVariants.{Trailer as in_trailer, Settings as in_settings, Request as in_request, Pile as in_pile}
 
 -- T, S, Q and P
 abbrev pub stage_letter : Stage → ℕ
-stage_letter in-trailer = 84
-stage_letter in-settings = 83
-stage_letter in-request = 81
-stage_letter (in-pile height) = 80
+stage_letter in_trailer = 84
+stage_letter in_settings = 83
+stage_letter in_request = 81
+stage_letter (in_pile height) = 80
 
 -- a fault, where a question is answered no
 abbrev pub faulted : Bool → Denial → ℕ → Stage → Option Fault

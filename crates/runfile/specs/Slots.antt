@@ -1,19 +1,19 @@
 -- Slots: the letters of their requests, the values of an answer, and the slot of a request. Assumes nothing.
 use Rattle.std.specs.Prelude.{ℕ, pos}
-use Rattle.line.specs.Denials.{number as denial-number}
+use Rattle.line.specs.Denials.{number as denial_number}
 use Rattle.line.specs.declared.load.Load.{Load}
 use Rattle.runfile.specs.declared.request.Request.{Request}
 use Rattle.runfile.specs.declared.slot.Answer.{Answer}
 use Rattle.runfile.specs.declared.slot.Answer.TheVariants.{Unmarked, Denied, Toll, Line}
 use Rattle.runfile.specs.declared.slot.Slot.{Slot}
 use Rattle.runfile.specs.declared.slot.Tag.{Tag}
-use Rattle.runfile.specs.declared.slot.Tag.TheVariants.{Read as tag_read, Write as tag-write}
+use Rattle.runfile.specs.declared.slot.Tag.TheVariants.{Read as tag_read, Write as tag_write}
 use Rattle.runfile.specs.Asks.{Ask, read, write, Placed, placed_of}
 
 -- r and w
 abbrev pub tag_letter : Tag → ℕ
 tag_letter tag_read = 114
-tag_letter tag-write = 119
+tag_letter tag_write = 119
 
 -- a load of zeros
 abbrev pub no_load : Load
@@ -28,14 +28,14 @@ pub record Values : Type 0 where
 -- an answer that is unmarked is 0 in all three
 abbrev pub values : Answer → Values
 values Unmarked = record { number = 0; toll = 0; load = no_load }
-values (Denied d) = record { number = denial-number d; toll = 0; load = no_load }
+values (Denied d) = record { number = denial_number d; toll = 0; load = no_load }
 values (Toll t) = record { number = 0; toll = t; load = no_load }
 values (Line l) = record { number = 0; toll = 0; load = l }
 
 -- the slot of an ask that has not been carried out, at its place
 abbrev pub unmarked : ℕ → Ask → Slot
 unmarked p (read l) = record { tag = tag_read; line = l; place = p; answer = Unmarked }
-unmarked p (write l bs) = record { tag = tag-write; line = l; place = p; answer = Unmarked }
+unmarked p (write l bs) = record { tag = tag_write; line = l; place = p; answer = Unmarked }
 
 abbrev pub slot_at : Placed → Slot
 slot_at x = unmarked x.place x.ask

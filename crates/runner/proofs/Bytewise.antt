@@ -51,8 +51,8 @@ module _ {M : Type 0} (g : Ghosts M Load) (mem : M → Memory) (life : M → ℕ
     (is-effect : (m : M) (i : ℕ) (v : Load) (n : M) → ((t : ℕ) → g.effect m i v (Ok t) n → mem n ≡ memory_accepted (mem m) (Write i v)) × ((d : Denial) → g.effect m i v (Err d) n → mem n ≡ mem m)) where
   step_life : (m : M) (c : Call Load) (r : Answer) (n : M) → Step g m c r n → life n ≡ life m
   step_life m c r n s =
-      let life-in : (x : M) → (means g x).life ≡ life x = λ x. ap (λ (a : Array Load). a.life) (is-array x) in
-      sym (life-in n) ∙ ap (λ (a : Array Load). a.life) s.array ∙ next_life (means g m) c ∙ life-in m
+      let life_in : (x : M) → (means g x).life ≡ life x = λ x. ap (λ (a : Array Load). a.life) (is-array x) in
+      sym (life_in n) ∙ ap (λ (a : Array Load). a.life) s.array ∙ next_life (means g m) c ∙ life_in m
 
   memory_denied : (m : M) (c : Call Load) (d : Denial) → denied_by (means g m) c ≡ Some d → memory_next (mem m) (life m) c ≡ mem m
   unfolding memory_next

@@ -15,7 +15,7 @@ use Rattle.medium.proofs.Arrays.{next_read}
 use Rattle.runfile.specs.declared.slot.Answer.{Answer}
 use Rattle.runfile.specs.declared.slot.Answer.TheVariants.{Unmarked, Denied, Line}
 use Rattle.runfile.specs.declared.slot.Slot.{Slot}
-use Rattle.runfile.specs.declared.slot.Tag.TheVariants.{Read as read-tag}
+use Rattle.runfile.specs.declared.slot.Tag.TheVariants.{Read as read_tag}
 use Rattle.runfile.specs.declared.fault.Fault.{Fault}
 use Rattle.runfile.specs.declared.request.Request.{Request}
 use Rattle.runfile.specs.declared.request.Request.TheVariants.{Read as ReadRequest, Write as WriteRequest}
@@ -52,7 +52,7 @@ played_push g m (d ∷ cs) (q ∷ rs) n c r n' h s = (h.0, h.1, played_push g h.
 -- ---- the slots, of which one more is answered
 -- the element that stands for one past the end
 abbrev pub no_slot : Slot
-no_slot = record { tag = read-tag; line = 0; place = 0; answer = Unmarked }
+no_slot = record { tag = read_tag; line = 0; place = 0; answer = Unmarked }
 
 set_own : {X Y : Type 0} (f : X → Y) (xs : List X) (i : ℕ) (x d : X) → f x ≡ f (get_or xs i d) → map f (set xs i x) ≡ map f xs
 set_own f [] i x d e = refl

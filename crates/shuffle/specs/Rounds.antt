@@ -41,15 +41,15 @@ module _ (n : ℕ) (keys : List ℕ) (long : length keys ≡ 3) (x : ℕ) (in_sp
       → r ≡ feistel_forward n keys x
   forward_is e1 e2 e3 =
       let F : List ℕ → ℕ = λ ks. joined n (stages (map (round n) ks) (halves n x)) in
-      let three-stages : h3 ≡ stages (map (round n) (slice_index keys 0 ∷ slice_index keys 1 ∷ slice_index keys 2 ∷ [])) (halves n x) =
+      let three_stages : h3 ≡ stages (map (round n) (slice_index keys 0 ∷ slice_index keys 1 ∷ slice_index keys 2 ∷ [])) (halves n x) =
       e3 ∙ ap (stage (round n (slice_index keys 2))) (e2 ∙ ap (stage (round n (slice_index keys 1))) (e1 ∙ ap (stage (round n (slice_index keys 0))) split)) in
-      join ∙ ap (joined n) three-stages ∙ ap F (sym (three keys long)) ∙ sym (below_in (feistel_span n) (λ y. joined n (stages (map (round n) keys) (halves n y))) x in_span)
+      join ∙ ap (joined n) three_stages ∙ ap F (sym (three keys long)) ∙ sym (below_in (feistel_span n) (λ y. joined n (stages (map (round n) keys) (halves n y))) x in_span)
 
   pub back_is :
       h1 ≡ unstage (round n (slice_index keys 2)) h0 → h2 ≡ unstage (round n (slice_index keys 1)) h1 → h3 ≡ unstage (round n (slice_index keys 0)) h2
       → r ≡ feistel_back n keys x
   back_is e1 e2 e3 =
       let F : List ℕ → ℕ = λ ks. joined n (unstages (map (round n) ks) (halves n x)) in
-      let three-stages : h3 ≡ unstages (map (round n) (slice_index keys 0 ∷ slice_index keys 1 ∷ slice_index keys 2 ∷ [])) (halves n x) =
+      let three_stages : h3 ≡ unstages (map (round n) (slice_index keys 0 ∷ slice_index keys 1 ∷ slice_index keys 2 ∷ [])) (halves n x) =
       e3 ∙ ap (unstage (round n (slice_index keys 0))) (e2 ∙ ap (unstage (round n (slice_index keys 1))) (e1 ∙ ap (unstage (round n (slice_index keys 2))) split)) in
-      join ∙ ap (joined n) three-stages ∙ ap F (sym (three keys long)) ∙ sym (below_in (feistel_span n) (λ y. joined n (unstages (map (round n) keys) (halves n y))) x in_span)
+      join ∙ ap (joined n) three_stages ∙ ap F (sym (three keys long)) ∙ sym (below_in (feistel_span n) (λ y. joined n (unstages (map (round n) keys) (halves n y))) x in_span)
