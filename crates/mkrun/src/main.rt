@@ -6,6 +6,7 @@ use anyhow::anyhow;
 use compose::compose::compose;
 use runfile::lengths;
 use std::io::{Read, Write};
+use std::process::ExitCode;
 
 // Nothing is written before the whole text was read without a fault.
 fn make(rt: &HostRuntime) -> anyhow::Result<()> {
@@ -20,12 +21,13 @@ fn make(rt: &HostRuntime) -> anyhow::Result<()> {
     Ok(())
 }
 
-fn main(rt: HostRuntime) -> anyhow::Result<()> {
+fn main(rt: HostRuntime) -> ExitCode {
     match make(&rt) {
-        Ok(()) => Ok(()),
+        Ok(()) => ExitCode::SUCCESS,
         Err(error) => {
-            eprintln!(rt; "mkrun: {error}")?;
-            Err(error)
+            // Where even this can't be written, the status alone says it.
+            let _ = eprintln!(rt; "mkrun: {error}");
+            ExitCode::FAILURE
         }
     }
 }
