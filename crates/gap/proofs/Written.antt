@@ -137,17 +137,20 @@ module _ {A : Type 0} (g : Gaps) (life taken : ℕ) (held : Held g taken life) (
         ∙ ap (λ y. record { lines = set (gap_lines g b.lines) i v; taken = taken + 1; life = y }) life_is)
         w1.answer.1.0 w1.answer.1.1
 
+    -- what is asked below
+    pub counted_requests : Write p v ∷ [] ≡ requests (gaps g) (gap_lines g b.lines) (Write i v)
+    counted_requests =
+        ap (λ y. Write y v ∷ []) e
+        ∙ ap (λ ks. Write (gap_place g i) v ∷ (reads_of ks ++ writes_of (set (gap_lines g b.lines) i v) v ks)) (sym (write_counts g i d).1)
+
     pub counted_served : (t t1 : Pile A) → Served t b u (Write p v ∷ []) t1 u1
         → Served (over (gaps g) b u t) (gap_array g life taken b) u (Write i v ∷ []) (over (gaps (with_row g (i / g.size) w g.copies)) b1 u1 t1) u1
     counted_served t t1 s =
         let n = write_counts g i d in
         let es : gaps (with_row g (i / g.size) w g.copies) ≡ gaps (after_write g i) =
         ap (λ y. gaps (with_row g (i / g.size) y g.copies)) ew ∙ ap (λ y. gaps y) (sym n.0) in
-        let eq : Write p v ∷ [] ≡ requests (gaps g) (gap_lines g b.lines) (Write i v) =
-        ap (λ y. Write y v ∷ []) e
-        ∙ ap (λ ks. Write (gap_place g i) v ∷ (reads_of ks ++ writes_of (set (gap_lines g b.lines) i v) v ks)) (sym n.1) in
         layer_accepted (gaps g) (gaps (with_row g (i / g.size) w g.copies)) b b1 u u1 t t1 (gap_array g life taken b) (Write i v) (accepts_write _ i v h k) es
-        (subst (λ q. Asked b u t q b1 u1 t1) eq (asked_write b b1 u u1 t t1 p v x1 w1 s))
+        (subst (λ q. Asked b u t q b1 u1 t1) counted_requests (asked_write b b1 u u1 t t1 p v x1 w1 s))
 
   -- the move
   pub from_there : (region_copy g (i / g.size)).from < length b1.lines
@@ -202,6 +205,17 @@ module _ {A : Type 0} (g : Gaps) (life taken : ℕ) (held : Held g taken life) (
         ∙ ap (λ y. record { lines = set (gap_lines g b.lines) i v; taken = taken + 1; life = y }) life_is)
         (omega arith) (omega arith)
 
+    pub moved_requests : Write p v ∷ (Read (region_copy g (i / g.size)).from ∷ (Write (region_copy g (i / g.size)).to x ∷ []))
+        ≡ requests (gaps g) (gap_lines g b.lines) (Write i v)
+    moved_requests =
+        let from = (region_copy g (i / g.size)).from in
+        let to = (region_copy g (i / g.size)).to in
+        let val : x ≡ get_or (set (gap_lines g b.lines) i v) (region_copy g (i / g.size)).moved v =
+        line_moved g sd b.lines i hi hn v x (value_is v ∙ ap (λ y. get_or y from v) lines1) in
+        ap (λ y. Write y v ∷ (Read from ∷ (Write to x ∷ []))) e
+        ∙ ap (λ y. Write (gap_place g i) v ∷ (Read from ∷ (Write to y ∷ []))) val
+        ∙ ap (λ ks. Write (gap_place g i) v ∷ (reads_of ks ++ writes_of (set (gap_lines g b.lines) i v) v ks)) (sym (write_moves g i d).1)
+
     pub moved_served : (t t1 t2 : Pile A) → Served t b u (Write p v ∷ []) t1 u1 → Served t1 b1 u1 (Read (region_copy g (i / g.size)).from ∷ []) t1 u1
         → Served t1 b1 u1 (Write (region_copy g (i / g.size)).to x ∷ []) t2 u2
         → Served (over (gaps g) b u t) (gap_array g life taken b) u (Write i v ∷ []) (over (gaps (with_row g (i / g.size) w (g.copies + 1))) b2 u2 t2) u2
@@ -211,14 +225,8 @@ module _ {A : Type 0} (g : Gaps) (life taken : ℕ) (held : Held g taken life) (
         let n = write_moves g i d in
         let es : gaps (with_row g (i / g.size) w (g.copies + 1)) ≡ gaps (after_write g i) =
         ap (λ y. gaps (with_row g (i / g.size) y (g.copies + 1))) ew ∙ ap (λ y. gaps y) (sym n.0) in
-        let val : x ≡ get_or (set (gap_lines g b.lines) i v) (region_copy g (i / g.size)).moved v =
-        line_moved g sd b.lines i hi hn v x (value_is v ∙ ap (λ y. get_or y from v) lines1) in
-        let eq : Write p v ∷ (Read from ∷ (Write to x ∷ [])) ≡ requests (gaps g) (gap_lines g b.lines) (Write i v) =
-        ap (λ y. Write y v ∷ (Read from ∷ (Write to x ∷ []))) e
-        ∙ ap (λ y. Write (gap_place g i) v ∷ (Read from ∷ (Write to y ∷ []))) val
-        ∙ ap (λ ks. Write (gap_place g i) v ∷ (reads_of ks ++ writes_of (set (gap_lines g b.lines) i v) v ks)) (sym n.1) in
         let asked =
         asked_more b b1 b2 u u1 u2 t t1 t2 (Write p v ∷ []) (Read from ∷ (Write to x ∷ [])) (asked_write b b1 u u1 t t1 p v x1 w1 s1)
         (asked_more b1 b1 b2 u1 u1 u2 t1 t1 t2 (Read from ∷ []) (Write to x ∷ []) (asked_read b1 u1 t1 from from_there sr) (asked_write b1 b2 u1 u2 t1 t2 to x x2 w2 s2)) in
         layer_accepted (gaps g) (gaps (with_row g (i / g.size) w (g.copies + 1))) b b2 u u2 t t2 (gap_array g life taken b) (Write i v) (accepts_write _ i v h k) es
-        (subst (λ q. Asked b u t q b2 u2 t2) eq asked)
+        (subst (λ q. Asked b u t q b2 u2 t2) moved_requests asked)

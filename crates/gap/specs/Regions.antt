@@ -52,5 +52,6 @@ pub record Made {A : Type 0} (g : Gaps) (a : Array A) (w : ℕ) (p : Pile A) (b 
 -- the same where it said no
 pub record MadeUnfit {A : Type 0} (g : Gaps) (a : Array A) (w : ℕ) (p : Pile A) (b : Array A) (u : ℕ) (t : Pile A) : Type 0 where
   pub unfit : Unfit a
+  pub copies : g.copies ≡ 0
   pub wear : w ≡ u
   pub pile : p ≡ over (gaps g) b u t

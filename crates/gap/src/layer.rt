@@ -3,6 +3,7 @@
 ghost use Rattle.std.specs.Prelude.{◌≡◌, ℕ, ◌+◌, ◌-◌, ◌*◌, ◌/◌, ◌%◌, ◌^◌, ◌<◌, ◌≤◌, List, [], ◌∷◌, length, Option, slice_index_or};
 ghost use Rattle.startgap.specs.Rows.{row_place, row_line, row_holder, row_from, row_moved, row_counted};
 ghost use Rattle.startgap.specs.Regions.{no_row, total_due, split_line, gap_place};
+ghost use Rattle.medium.specs.Chain.{LayerEffect};
 ghost use Rattle.medium.specs.Meaning.{means};
 ghost use Rattle.medium.specs.Pile.{gaps, over};
 ghost use Rattle.gap.specs.Regions.{registers, gap_lines, gap_life};
@@ -132,8 +133,7 @@ impl<M: Medium> Medium for GapLayer<M> {
 
     ghost memory = { λ x. M.Medium.memory x.below };
 
-    // nothing besides: the lines below say it all
-    ghost effect = { λ m i v r n. Unit {0} };
+    ghost effect = { λ x i v r y. LayerEffect M.Medium x y x.below y.below (gaps (registers x.regions x.size x.interval x.rows x.copies)) (gap_lines (registers x.regions x.size x.interval x.rows x.copies) (M.Medium.lines x.below)) i v r };
 
     fn count(&self) -> u16 {
         if self.regions * (self.size + 1) <= self.below.count() {

@@ -22,7 +22,7 @@ use Rattle.refresh.proofs.Refreshes as refreshes
 use Rattle.refresh.proofs.Writes as writes
 use Rattle.medium.specs.Array.{Array, unless_denied, denied_by, accepted, next, after, write_reply}
 use Rattle.medium.specs.Law.{Lasts, copies_by, copied, Carried, EvenCopies, Evenly, left, New, Unfit, MadeOver, Fitted, deep, Leads}
-use Rattle.medium.specs.Pile.{Layer, scatter, gaps, refresh, place, due_copies, turned, turned_by, layer_at, asks, Pile, bottom, over, bottom_array, placed_lines, paid_life}
+use Rattle.medium.specs.Pile.{Layer, scatter, gaps, refresh, place, due_copies, turned, made, turned_by, layer_at, asks, Pile, bottom, over, bottom_array, placed_lines, paid_life}
 use Rattle.medium.specs.declared.call.Call.{Call}
 use Rattle.medium.specs.declared.call.Call.TheVariants.{Read, Write}
 use Rattle.medium.proofs.Arrays.{accepts_write, denies_line, denies_life}
@@ -31,7 +31,7 @@ use Rattle.std.proofs.ByRecursion.{All-weaker}
 use Rattle.medium.proofs.Piles.{taken_after}
 
 -- ---- the array keeps its count and its life
-next_keeps : {A : Type 0} (a : Array A) (c : Call A) → (length (next a c).lines ≡ length a.lines) × ((next a c).life ≡ a.life)
+pub next_keeps : {A : Type 0} (a : Array A) (c : Call A) → (length (next a c).lines ≡ length a.lines) × ((next a c).life ≡ a.life)
 unfolding next
 next_keeps a c =
     elim (denied_by a c) as (λ o. (length (unless_denied o (accepted a c) a).lines ≡ length a.lines) × ((unless_denied o (accepted a c) a).life ≡ a.life)) [
@@ -220,7 +220,7 @@ pub record Placing {A : Type 0} (s : Layer) (a b : Array A) : Type 0 where
   pub lines : a.lines ≡ placed_lines count need (place s) b.lines
   pub sound : SoundFor s (length a.lines)
 
-new_placing : {A : Type 0} (s : Layer) (a b : Array A) → New s a b → Placing s a b
+pub new_placing : {A : Type 0} (s : Layer) (a b : Array A) → New s a b → Placing s a b
 new_placing (scatter n f) a b h = record { count = n; need = n; stays = h.stays; wide = h.wide; lines = h.lines; sound = tt }
 new_placing (gaps g) a b h =
     let size = ap (λ (x : Gaps). x.size) h.new in
@@ -297,9 +297,9 @@ made_fit (Ok x) s b u t p a w h e n l = (e, n, l)
 made_fit (Err d) s b u t p a w h e n l = let z : ◌≡◌ {A = ℕ} 0 1 = cc in absurd (omega arith)
 
 pub made_unfit : {A : Type 0} (r : Result (Unit {0}) Denial) (s q : Layer) (b : Array A) (u : ℕ) (t p : Pile A) (a : Array A) (w : ℕ)
-    → is_err r ≡ true → p ≡ over q b u t → Unfit a → w ≡ u → MadeOver r s b u t p a w
-made_unfit (Ok x) s q b u t p a w h e n l = let z : ◌≡◌ {A = ℕ} 0 1 = cc in absurd (omega arith)
-made_unfit (Err d) s q b u t p a w h e n l = ((q, e), n, l)
+    → is_err r ≡ true → made q ≡ 0 → p ≡ over q b u t → Unfit a → w ≡ u → MadeOver r s b u t p a w
+made_unfit (Ok x) s q b u t p a w h z₀ e n l = let z : ◌≡◌ {A = ℕ} 0 1 = cc in absurd (omega arith)
+made_unfit (Err d) s q b u t p a w h z₀ e n l = ((q, (z₀, e)), n, l)
 
 -- no lines are placed where there are none to place
 pub placed_nothing : {A : Type 0} (need : ℕ) (f : ℕ → ℕ) (ls : List A) → placed_lines 0 need f ls ≡ []
@@ -322,4 +322,13 @@ pub fitted_over : {A : Type 0} (r : Result (Unit {0}) Denial) (s : Layer) (b : A
     → MadeOver r s b u t p a w → Fitted b u t → Fitted a w p
 unfolding Fitted
 fitted_over (Ok x) s b u t p a w m f = subst (Fitted a w) (sym m.0) (inl m.1, m.2, f)
-fitted_over (Err d) s b u t p a w m f = subst (Fitted a w) (sym m.0.1) (inr m.1, m.2, f)
+fitted_over (Err d) s b u t p a w m f = subst (Fitted a w) (sym m.0.1.1) (inr m.1, m.2, f)
+
+-- the same by its parts: a layer that is newly fitted, and one that is unfit
+pub fitted_new : {A : Type 0} (s : Layer) (b : Array A) (u : ℕ) (t p : Pile A) (a : Array A) (w : ℕ) → p ≡ over s b u t → New s a b → w ≡ u → Fitted b u t → Fitted a w p
+unfolding Fitted
+fitted_new s b u t p a w e n l f = subst (Fitted a w) (sym e) (inl n, l, f)
+
+pub fitted_none : {A : Type 0} (s : Layer) (b : Array A) (u : ℕ) (t p : Pile A) (a : Array A) (w : ℕ) → p ≡ over s b u t → Unfit a → w ≡ u → Fitted b u t → Fitted a w p
+unfolding Fitted
+fitted_none s b u t p a w e n l f = subst (Fitted a w) (sym e) (inr n, l, f)

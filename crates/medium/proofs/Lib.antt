@@ -1,4 +1,5 @@
 pub mod Arrays
+pub mod Chains
 pub mod Layers
 pub mod Piles
 pub mod Fittings

@@ -11,7 +11,7 @@ use Rattle.refresh.specs.Life as refreshing
 use Rattle.refresh.specs.Powers.{GreatestPower}
 use Rattle.refresh.specs.Refresh.{Registers, new_registers, place_of}
 use Rattle.medium.specs.Array.{Array, Reply, line, written, denied, denied_by, unless_denied, next, after, reply, replies}
-use Rattle.medium.specs.Pile.{Layer, scatter, gaps, refresh, place, due_copies, layer_at, asks, Pile, bottom, over, Served, bottom_array, bottom_wear, copies, placed_lines}
+use Rattle.medium.specs.Pile.{Layer, scatter, gaps, refresh, place, due_copies, made, layer_at, asks, Pile, bottom, over, Served, bottom_array, bottom_wear, copies, placed_lines}
 use Rattle.medium.specs.declared.call.Answer.{Answer}
 use Rattle.medium.specs.declared.call.Answer.TheVariants.{Line, Toll, Denied}
 use Rattle.medium.specs.declared.call.Call.{Call}
@@ -137,10 +137,10 @@ abbrev pub Unfit : {A : Type 0} → Array A → Type 0
 Unfit {A} a = a ≡ record { lines = []; taken = 0; life = 0 }
 
 -- the making of a layer over what means b, has the wear u and lies over t, by its survey: where that says yes it is the layer s, newly
--- fitted; where it says no it is an unfit one; its wear is that below
+-- fitted; where it says no it is an unfit one, that has made no copies; its wear is that below
 abbrev pub MadeOver : {A : Type 0} → Result (Unit {0}) DeniedBy → Layer → Array A → ℕ → Pile A → Pile A → Array A → ℕ → Type 0
 MadeOver (Ok x) s b u t p a w = (p ≡ over s b u t) × New s a b × (w ≡ u)
-MadeOver (Err d) s b u t p a w = ((r : Layer) × (p ≡ over r b u t)) × Unfit a × (w ≡ u)
+MadeOver (Err d) s b u t p a w = ((r : Layer) × ((made r ≡ 0) × (p ≡ over r b u t))) × Unfit a × (w ≡ u)
 
 -- each layer has just been made, over a bottom in any state; its wear is that below
 unfoldable pub Fitted : {A : Type 0} → Array A → ℕ → Pile A → Type 0

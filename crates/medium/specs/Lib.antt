@@ -1,4 +1,5 @@
 pub mod Array
+pub mod Chain
 pub mod Law
 pub mod Meaning
 pub mod Pile

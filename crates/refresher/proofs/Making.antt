@@ -141,6 +141,7 @@ layer_unfit {A} b interval keys ring w u t =
     record {
       none = ap (λ (x : List A). record { lines = x; taken = 0; life = (refresh_array (registers 0 interval keys ring w 0 0) 0 0 b).life }) (no_lines _ b.lines)
           ∙ ap (λ x. record { lines = []; taken = 0; life = x }) (no_life _ _);
+      copies = refl;
       wear = refl;
       pile = refl;
     }

@@ -130,14 +130,16 @@ module _ {A : Type 0} {g : Registers} {taken life : ℕ} {b b1 : Array A} {u u1 
       omega arith
 
   -- nothing but the write is asked below
+  alone_requests : write_copies g ≡ [] → Write p v ∷ [] ≡ requests (refresh g) (refresh_lines g b) (Write i v)
+  alone_requests n =
+      ap (λ y. Write y v ∷ []) e
+      ∙ ap (λ ks. Write (place_of g.round i) v ∷ (reads_of ks ++ writes_of (set (refresh_lines g b) i v) v ks)) (sym n)
+
   served_alone : (t t1 : Pile A) (g' : Registers) → g' ≡ after_write g → write_copies g ≡ [] → Served t b u (Write p v ∷ []) t1 u1
       → Served (over (refresh g) b u t) (refresh_array g life taken b) u (Write i v ∷ []) (over (refresh g') b1 u1 t1) u1
   served_alone t t1 g' eg n s =
-      let eq : Write p v ∷ [] ≡ requests (refresh g) (refresh_lines g b) (Write i v) =
-      ap (λ y. Write y v ∷ []) e
-      ∙ ap (λ ks. Write (place_of g.round i) v ∷ (reads_of ks ++ writes_of (set (refresh_lines g b) i v) v ks)) (sym n) in
       layer_accepted (refresh g) (refresh g') b b1 u u1 t t1 (refresh_array g life taken b) (Write i v) (accepts_write _ i v h l) (ap (λ y. refresh y) eg)
-      (subst (λ q. Asked b u t q b1 u1 t1) eq (asked_write b b1 u u1 t t1 p v x1 w1 s))
+      (subst (λ q. Asked b u t q b1 u1 t1) (alone_requests n) (asked_write b b1 u u1 t t1 p v x1 w1 s))
 
   -- ---- no refresh is due
   pub noted_wrote : Wrote (refresh_array g life taken b) u i v (refresh_array (noted g) life (taken + 1) b1) u1 (Ok x1)
@@ -146,6 +148,9 @@ module _ {A : Type 0} {g : Registers} {taken life : ℕ} {b b1 : Array A} {u u1 
   pub noted_served : (t t1 : Pile A) → g.due + 1 < g.interval → Served t b u (Write p v ∷ []) t1 u1
       → Served (over (refresh g) b u t) (refresh_array g life taken b) u (Write i v ∷ []) (over (refresh (noted g)) b1 u1 t1) u1
   noted_served t t1 d s = let n = write_waits g d in served_alone t t1 (noted g) (sym n.0) n.1 s
+
+  pub noted_requests : g.due + 1 < g.interval → Write p v ∷ [] ≡ requests (refresh g) (refresh_lines g b) (Write i v)
+  noted_requests d = alone_requests (write_waits g d).1
 
   -- ---- a refresh that exchanges nothing
   pub unexchanged_wrote : (w : Round) → w ≡ refreshed g.size g.keys g.round → pointer_mate g.round ≤ g.round.pointer
@@ -163,6 +168,9 @@ module _ {A : Type 0} {g : Registers} {taken life : ℕ} {b b1 : Array A} {u u1 
   unexchanged_served t t1 w ew d m s =
       let n = write_no_exchange g d m in
       served_alone t t1 (turned g w g.copies) (ap (λ (y : Round). turned g y g.copies) ew ∙ sym n.0) n.1 s
+
+  pub unexchanged_requests : g.interval ≤ g.due + 1 → pointer_mate g.round ≤ g.round.pointer → Write p v ∷ [] ≡ requests (refresh g) (refresh_lines g b) (Write i v)
+  unexchanged_requests d m = alone_requests (write_no_exchange g d m).1
 
   -- ---- a refresh that exchanges two lines
   pub previous_in : previous_place g.round < length b1.lines
@@ -227,6 +235,16 @@ module _ {A : Type 0} {g : Registers} {taken life : ℕ} {b b1 : Array A} {u u1 
           ∙ ap (λ z. get_or b1.lines z v) (sym (line_before g.round m))
           ∙ sym (line_value g.round.pointer sound.pointer)
 
+      pub exchanged_requests : Write p v ∷ (Read (current_place g.round) ∷ (Read (previous_place g.round) ∷ (Write (previous_place g.round) x ∷ (Write (current_place g.round) y ∷ []))))
+          ≡ requests (refresh g) (refresh_lines g b) (Write i v)
+      exchanged_requests =
+          let op = previous_place g.round in
+          let cp = current_place g.round in
+          ap (λ r. Write r v ∷ (Read cp ∷ (Read op ∷ (Write op x ∷ (Write cp y ∷ []))))) e
+          ∙ ap (λ r. Write (place_of g.round i) v ∷ (Read cp ∷ (Read op ∷ (Write op r ∷ (Write cp y ∷ []))))) value_mated
+          ∙ ap (λ r. Write (place_of g.round i) v ∷ (Read cp ∷ (Read op ∷ (Write op (get_or (set (refresh_lines g b) i v) (pointer_mate g.round) v) ∷ (Write cp r ∷ []))))) value_moved
+          ∙ ap (λ ks. Write (place_of g.round i) v ∷ (reads_of ks ++ writes_of (set (refresh_lines g b) i v) v ks)) (sym (write_exchanges g d m).1)
+
       module _ {b3 : Array A} {u3 x3 : ℕ} (w3 : Wrote b2 u2 (current_place g.round) y b3 u3 (Ok x3)) where
         third_is : b3 ≡ record { lines = set b2.lines (current_place g.round) y; taken = b2.taken + 1; life = b2.life }
         third_is = written_is b2 b3 u2 u3 (current_place g.round) y x3 w3
@@ -270,14 +288,9 @@ module _ {A : Type 0} {g : Registers} {taken life : ℕ} {b b1 : Array A} {u u1 
             let cp = current_place g.round in
             let es : refresh (turned g w (g.copies + 2)) ≡ refresh (after_write g) =
             ap (λ (r : Round). refresh (turned g r (g.copies + 2))) ew ∙ ap (λ r. refresh r) (sym n.0) in
-            let eq : Write p v ∷ (Read cp ∷ (Read op ∷ (Write op x ∷ (Write cp y ∷ [])))) ≡ requests (refresh g) (refresh_lines g b) (Write i v) =
-            ap (λ r. Write r v ∷ (Read cp ∷ (Read op ∷ (Write op x ∷ (Write cp y ∷ []))))) e
-            ∙ ap (λ r. Write (place_of g.round i) v ∷ (Read cp ∷ (Read op ∷ (Write op r ∷ (Write cp y ∷ []))))) value_mated
-            ∙ ap (λ r. Write (place_of g.round i) v ∷ (Read cp ∷ (Read op ∷ (Write op (get_or (set (refresh_lines g b) i v) (pointer_mate g.round) v) ∷ (Write cp r ∷ []))))) value_moved
-            ∙ ap (λ ks. Write (place_of g.round i) v ∷ (reads_of ks ++ writes_of (set (refresh_lines g b) i v) v ks)) (sym n.1) in
             let done = asked_more b b1 b3 u u1 u3 t t1 t3 (Write p v ∷ []) (Read cp ∷ (Read op ∷ (Write op x ∷ (Write cp y ∷ [])))) (asked_write b b1 u u1 t t1 p v x1 w1 s1)
             (asked_more b1 b1 b3 u1 u1 u3 t1 t1 t3 (Read cp ∷ []) (Read op ∷ (Write op x ∷ (Write cp y ∷ []))) (asked_read b1 u1 t1 cp current_in r1)
             (asked_more b1 b1 b3 u1 u1 u3 t1 t1 t3 (Read op ∷ []) (Write op x ∷ (Write cp y ∷ [])) (asked_read b1 u1 t1 op previous_in r2)
             (asked_more b1 b2 b3 u1 u2 u3 t1 t2 t3 (Write op x ∷ []) (Write cp y ∷ []) (asked_write b1 b2 u1 u2 t1 t2 op x x2 w2 s2) (asked_write b2 b3 u2 u3 t2 t3 cp y x3 w3 s3)))) in
             layer_accepted (refresh g) (refresh (turned g w (g.copies + 2))) b b3 u u3 t t3 (refresh_array g life taken b) (Write i v) (accepts_write _ i v h l) es
-            (subst (λ q. Asked b u t q b3 u3 t3) eq done)
+            (subst (λ q. Asked b u t q b3 u3 t3) exchanged_requests done)

@@ -53,5 +53,6 @@ pub record Made {A : Type 0} (g : Registers) (a b : Array A) (w u : ℕ) (p t : 
 -- the same where the settings do not fit
 pub record MadeUnfit {A : Type 0} (g : Registers) (a b : Array A) (w u : ℕ) (p t : Pile A) : Type 0 where
   pub none : Unfit a
+  pub copies : g.copies ≡ 0
   pub wear : w ≡ u
   pub pile : p ≡ over (refresh g) b u t

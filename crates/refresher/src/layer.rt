@@ -3,6 +3,7 @@
 ghost use Rattle.std.specs.Prelude.{◌≡◌, ℕ, ◌+◌, ◌-◌, ◌/◌, ◌%◌, ◌<◌, ◌≤◌, List, [], length};
 ghost use Rattle.refresh.specs.Powers.{greatest_power};
 ghost use Rattle.refresh.specs.Refresh.{Bounded};
+ghost use Rattle.medium.specs.Chain.{LayerEffect};
 ghost use Rattle.medium.specs.Meaning.{means};
 ghost use Rattle.medium.specs.Pile.{over, refresh};
 ghost use Rattle.refresher.specs.Layer.{registers, refresh_lines, refresh_life, refresh_survey};
@@ -78,7 +79,7 @@ impl<M: Medium> Medium for RefreshLayer<M> {
 
     ghost memory = { λ x. M.Medium.memory x.below };
 
-    ghost effect = { λ _ _ _ _ _. Unit {0} };
+    ghost effect = { λ x i v r y. LayerEffect M.Medium x y x.below y.below (refresh (registers x.size x.interval x.keys x.ring x.round x.due x.copies)) (refresh_lines (registers x.size x.interval x.keys x.ring x.round x.due x.copies) (means M.Medium x.below)) i v r };
 
     fn count(&self) -> u16 {
         if self.size <= self.below.count() {

@@ -1,6 +1,7 @@
 //! The scatter layer, a medium over any medium.
 
 ghost use Rattle.std.specs.Prelude.{◌≡◌, ℕ, ◌+◌, ◌-◌, ◌≤◌, length};
+ghost use Rattle.medium.specs.Chain.{LayerEffect};
 ghost use Rattle.medium.specs.Meaning.{means};
 ghost use Rattle.medium.specs.Pile.{over, scatter, placed_lines, paid_life};
 ghost use Rattle.scatter.specs.Scatters.{scatter_size};
@@ -47,7 +48,7 @@ impl<S: Shuffle, M: Medium> Medium for ScatterLayer<S, M> {
 
     ghost memory = { λ m. M.Medium.memory m.below };
 
-    ghost effect = { λ m i v r n. Unit {0} };
+    ghost effect = { λ m i v r n. LayerEffect M.Medium m n m.below n.below (scatter (scatter_size m.fit (S.Shuffle.span m.shuffle)) (S.Shuffle.forward m.shuffle)) (placed_lines (scatter_size m.fit (S.Shuffle.span m.shuffle)) (scatter_size m.fit (S.Shuffle.span m.shuffle)) (S.Shuffle.forward m.shuffle) (M.Medium.lines m.below)) i v r };
 
     fn count(&self) -> u16 {
         let size = self.size();

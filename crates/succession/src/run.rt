@@ -1,6 +1,7 @@
 //! Carries out a succession of calls on any medium.
 
-ghost use Rattle.std.specs.Prelude.{◌≡◌, [], ◌∷◌, min, length, take, drop};
+ghost use Rattle.std.specs.Prelude.{◌≡◌, min, [], ◌∷◌, length, take, drop};
+ghost use Rattle.medium.specs.Chain.{InTurn};
 ghost use Rattle.medium.specs.Law.{Ran, Law};
 ghost use Rattle.medium.specs.Meaning.{means};
 
@@ -10,6 +11,7 @@ use medium::medium::Medium;
 // Puts one call to a medium.
 fn ask<M: Medium>(pile: &mut M, call: Call<M::Line>) -> Answer<M::Line>
     ensures memory { M.Medium.memory pile.new ≡ M.Medium.memory pile.old }
+    ensures turn { InTurn M.Medium pile.old (call ∷ []) (result ∷ []) pile.new }
     ensures ran { Ran (M.Medium.pile pile.old) (means M.Medium pile.old) (M.Medium.wear pile.old) (call ∷ []) (result ∷ []) (M.Medium.pile pile.new) (means M.Medium pile.new) (M.Medium.wear pile.new) }
 {
     match call {
@@ -26,7 +28,8 @@ fn ask<M: Medium>(pile: &mut M, call: Call<M::Line>) -> Answer<M::Line>
 
 /// Carries out calls in their order, as far as there is room for their answers, and answers how many those were.
 ///
-/// Whatever the medium is, a pile of layers in any order over any bottom or a plain medium, and whatever the calls are, the law holds.
+/// The calls are put to the medium one after the other, and each is answered as the trait says. Whatever the medium is, a pile of layers
+/// in any order over any bottom or a plain medium, and whatever the calls are, the law holds.
 pub fn carry_out<M: Medium>(
     pile: &mut M,
     calls: &[Call<M::Line>],
@@ -35,6 +38,7 @@ pub fn carry_out<M: Medium>(
     ensures count { result ≡ min (length calls.now) (length answers.old) }
     ensures rest { drop result answers.new ≡ drop result answers.old }
     ensures memory { M.Medium.memory pile.new ≡ M.Medium.memory pile.old }
+    ensures turns { InTurn M.Medium pile.old (take result calls.now) (take result answers.new) pile.new }
     ensures law { Law (M.Medium.pile pile.old) (means M.Medium pile.old) (M.Medium.wear pile.old) (take result calls.now) (take result answers.new) (M.Medium.pile pile.new) (means M.Medium pile.new) (M.Medium.wear pile.new) }
 {
     let n = calls.len().min(answers.len());

@@ -3,7 +3,7 @@
 ghost use Rattle.std.specs.Prelude.{◌≡◌, length, Ok, Err};
 ghost use Rattle.line.specs.declared.denial.Denial.{Denial as Denied};
 ghost use Rattle.startgap.specs.Regions.{new_gaps, region_size};
-ghost use Rattle.medium.specs.Law.{left};
+ghost use Rattle.medium.specs.Law.{left, Fitted};
 ghost use Rattle.medium.specs.Meaning.{means};
 ghost use Rattle.gap.specs.Fields.{registers_of};
 ghost use Rattle.gap.specs.Regions.{gap_survey, Made, MadeUnfit};
@@ -39,6 +39,7 @@ impl<M: Medium> GapLayer<M> {
         ensures kept { result.below ≡ below }
         ensures fit { gap_survey regions interval (length (M.Medium.lines below)) (left (means M.Medium below)) ≡ Ok tt → Made (new_gaps regions (region_size (length (M.Medium.lines below)) regions) interval) (means ⟦<GapLayer<M> as Medium>⟧ result) (⟦<GapLayer<M> as Medium>⟧.wear result) (⟦<GapLayer<M> as Medium>⟧.pile result) (means M.Medium below) (M.Medium.wear below) (M.Medium.pile below) }
         ensures unfit { (d : Denied) → gap_survey regions interval (length (M.Medium.lines below)) (left (means M.Medium below)) ≡ Err d → MadeUnfit (registers_of result) (means ⟦<GapLayer<M> as Medium>⟧ result) (⟦<GapLayer<M> as Medium>⟧.wear result) (⟦<GapLayer<M> as Medium>⟧.pile result) (means M.Medium below) (M.Medium.wear below) (M.Medium.pile below) }
+        ensures fitted { Fitted (means M.Medium below) (M.Medium.wear below) (M.Medium.pile below) → Fitted (means ⟦<GapLayer<M> as Medium>⟧ result) (⟦<GapLayer<M> as Medium>⟧.wear result) (⟦<GapLayer<M> as Medium>⟧.pile result) }
     {
         let count = below.count();
         let left = below.life() - below.taken();

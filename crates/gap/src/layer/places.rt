@@ -1,6 +1,8 @@
 //! Where the lines of a layer are, and its count of copies.
 
-ghost use Rattle.std.specs.Prelude.{◌≡◌, length};
+ghost use Rattle.std.specs.Prelude.{◌≡◌, length, IfOk};
+ghost use Rattle.startgap.specs.Regions.{GapsSound};
+ghost use Rattle.medium.specs.Array.{fetched};
 ghost use Rattle.gap.specs.Fields.{registers_of};
 ghost use Rattle.gap.specs.Regions.{place_answer, holder_answer};
 
@@ -12,6 +14,8 @@ impl<M: Medium> GapLayer<M> {
     /// The place below of a line. A number not below the layer's count is denied with 1.
     pub fn where_is(&self, line: u16) -> Result<u16, Denial>
         ensures answer { result ≡ place_answer (registers_of self.now) (length (⟦<GapLayer<M> as Medium>⟧.lines self.now)) line }
+        ensures content { IfOk result (λ p. fetched (M.Medium.lines self.now.below) p ≡ fetched (⟦<GapLayer<M> as Medium>⟧.lines self.now) line) }
+        ensures sound { GapsSound (registers_of self.now) }
     {
         if line >= self.count() {
             return Err(Denial::NoSuchLine);
@@ -23,6 +27,7 @@ impl<M: Medium> GapLayer<M> {
     /// A number not below the count of the medium below is denied with 1.
     pub fn holder(&self, place: u16) -> Result<Option<u16>, Denial>
         ensures answer { result ≡ holder_answer (registers_of self.now) (length (M.Medium.lines self.now.below)) place }
+        ensures sound { GapsSound (registers_of self.now) }
     {
         if place >= self.below.count() {
             return Err(Denial::NoSuchLine);

@@ -4,7 +4,7 @@ ghost use Rattle.std.specs.Prelude.{◌≡◌, ◌≤◌, length, take, Ok, Err}
 ghost use Rattle.line.specs.declared.denial.Denial.{Denial as Denied};
 ghost use Rattle.refresh.specs.Powers.{greatest_power};
 ghost use Rattle.refresh.specs.Refresh.{new_registers};
-ghost use Rattle.medium.specs.Law.{left as left_of};
+ghost use Rattle.medium.specs.Law.{left as left_of, Fitted};
 ghost use Rattle.medium.specs.Meaning.{means};
 ghost use Rattle.refresher.specs.Layer.{registers, refresh_survey, Made, MadeUnfit};
 
@@ -32,6 +32,7 @@ impl<M: Medium> RefreshLayer<M> {
         ensures kept { result.below ≡ below }
         ensures fit { refresh_survey (length ring.now) interval (length (M.Medium.lines below)) (left_of (means M.Medium below)) ≡ Ok tt → Made (new_registers (greatest_power (length (M.Medium.lines below))) interval ring.now) (means ⟦<RefreshLayer<M> as Medium>⟧ result) (means M.Medium below) (⟦<RefreshLayer<M> as Medium>⟧.wear result) (M.Medium.wear below) (⟦<RefreshLayer<M> as Medium>⟧.pile result) (M.Medium.pile below) }
         ensures unfit { (d : Denied) → refresh_survey (length ring.now) interval (length (M.Medium.lines below)) (left_of (means M.Medium below)) ≡ Err d → MadeUnfit (registers result.size result.interval result.keys result.ring result.round result.due result.copies) (means ⟦<RefreshLayer<M> as Medium>⟧ result) (means M.Medium below) (⟦<RefreshLayer<M> as Medium>⟧.wear result) (M.Medium.wear below) (⟦<RefreshLayer<M> as Medium>⟧.pile result) (M.Medium.pile below) }
+        ensures fitted { Fitted (means M.Medium below) (M.Medium.wear below) (M.Medium.pile below) → Fitted (means ⟦<RefreshLayer<M> as Medium>⟧ result) (⟦<RefreshLayer<M> as Medium>⟧.wear result) (⟦<RefreshLayer<M> as Medium>⟧.pile result) }
     {
         let count = below.count();
         let left = below.life() - below.taken();

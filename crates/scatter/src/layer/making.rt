@@ -3,7 +3,7 @@
 
 ghost use Rattle.std.specs.Prelude.{◌≡◌, length, IfOk};
 ghost use Rattle.medium.specs.Array.{fetched};
-ghost use Rattle.medium.specs.Law.{left, MadeOver};
+ghost use Rattle.medium.specs.Law.{left, MadeOver, Fitted};
 ghost use Rattle.medium.specs.Meaning.{means};
 ghost use Rattle.medium.specs.Pile.{scatter};
 ghost use Rattle.medium.specs.Pile.{made_by};
@@ -32,6 +32,7 @@ impl<S: Shuffle, M: Medium> ScatterLayer<S, M> {
     pub fn new(shuffle: S, below: M) -> ScatterLayer<S, M>
         ensures kept { (result.shuffle ≡ shuffle) × (result.below ≡ below) }
         ensures made { MadeOver (scatter_survey (S.Shuffle.span shuffle) (length (M.Medium.lines below)) (left (means M.Medium below))) (scatter (S.Shuffle.span shuffle) (S.Shuffle.forward shuffle)) (means M.Medium below) (M.Medium.wear below) (M.Medium.pile below) (⟦<ScatterLayer<S, M> as Medium>⟧.pile result) (means ⟦<ScatterLayer<S, M> as Medium>⟧ result) (⟦<ScatterLayer<S, M> as Medium>⟧.wear result) }
+        ensures fitted { Fitted (means M.Medium below) (M.Medium.wear below) (M.Medium.pile below) → Fitted (means ⟦<ScatterLayer<S, M> as Medium>⟧ result) (⟦<ScatterLayer<S, M> as Medium>⟧.wear result) (⟦<ScatterLayer<S, M> as Medium>⟧.pile result) }
     {
         let left = below.life() - below.taken();
         if survey(shuffle.span(), below.count(), left).is_err() {

@@ -1,10 +1,12 @@
 -- By the survey's answer.
 use Rattle.std.proofs.Common.{◌≡◌, ◌-◌, ◌/◌, ◌<◌, ◌≤◌, true, false, length, replicate, is_err, sym, refl, ap, ◌∙◌, div-le_self, arith}
-use Rattle.startgap.specs.Regions.{total_due}
+use Rattle.startgap.specs.Regions.{total_due, region_size, new_gaps}
 use Rattle.startgap.specs.Rows.{new_row}
 use Rattle.startgap.proofs.Regions.{sizes}
 use Rattle.medium.specs.Law.{left}
 use Rattle.medium.specs.Meaning.{means}
+use Rattle.medium.specs.Pile.{gaps}
+use Rattle.medium.proofs.Fittings.{fitted_new, fitted_none}
 use Rattle.gap.specs.Regions.{gap_survey}
 use Rattle.gap.proofs.Making.{survey_yes, yes_not_no, no_not_yes, surveyed, each_row, new_made, unfit_array}
 use Rattle.gap.proofs.layer.GapLayer.new.Goals as goal
@@ -18,7 +20,8 @@ returns-then-is_err g c =
     record {
       kept = refl;
       fit = λ e. let z = no_not_yes _ no e in absurd (omega arith);
-      unfit = λ d e. record { unfit = unfit_array _ b; wear = refl; pile = refl };
+      unfit = λ d e. record { unfit = unfit_array _ b; copies = refl; wear = refl; pile = refl };
+      fitted = fitted_none _ b _ _ _ _ _ refl (unfit_array _ b) refl;
     }
 
 pub invariant_of-result-2 : goal.invariant_of-result-2
@@ -61,8 +64,10 @@ returns g c =
     let yes : is_err (gap_survey R c.args.interval n l) ≡ false =
     sym (ap is_err c.survey.ensures) ∙ sym c.is_err.ensures.value ∙ c.if-is_err.false in
     let y = survey_yes R c.args.interval n l yes in
+    let made = new_made b (g.M.Medium.wear c.args.below) (g.M.Medium.pile c.args.below) R c.args.interval n l c.life-life.result (omega arith) (omega arith) y c.life-life.ensures.answer in
     record {
       kept = refl;
-      fit = λ e. new_made b (g.M.Medium.wear c.args.below) (g.M.Medium.pile c.args.below) R c.args.interval n l c.life-life.result (omega arith) (omega arith) y c.life-life.ensures.answer;
+      fit = λ e. made;
+      fitted = fitted_new (gaps (new_gaps R (region_size (length b.lines) R) c.args.interval)) b (g.M.Medium.wear c.args.below) (g.M.Medium.pile c.args.below) _ _ _ made.pile made.new made.wear;
       unfit = λ d e. let z = yes_not_no _ d (sym (ap is_err same) ∙ yes) e in absurd (omega arith);
     }

@@ -1,21 +1,23 @@
 -- Denials alter nothing. Otherwise the write below is accepted, as the life pays for it, and so is a due copy; what follows is as the
 -- lemmas on counted writes and on moves have it.
-use Rattle.std.proofs.Common.{◌≡◌, ◌+◌, ◌*◌, ◌/◌, ◌<◌, [], ◌∷◌, length, Some, refl, ap, ◌∙◌, subst, arith}
+use Rattle.std.proofs.Common.{◌≡◌, ◌+◌, ◌*◌, ◌/◌, ◌<◌, [], ◌∷◌, length, Some, Ok, refl, ap, ◌∙◌, subst, arith}
 use Rattle.startgap.specs.Regions.{region_copy}
 use Rattle.startgap.proofs.Regions.{region_below}
 use Rattle.startgap.proofs.Writes.{copy_to_below, copy_from_below}
 use Rattle.line.specs.declared.denial.Denial.TheVariants.{NoSuchLine, LifeUsed}
 use Rattle.medium.specs.Array.{fetched, denied_by}
+use Rattle.medium.specs.Chain.{Chained}
 use Rattle.medium.specs.Law.{left}
 use Rattle.medium.specs.Meaning.{means}
 use Rattle.medium.specs.Pile.{gaps, Served}
 use Rattle.medium.specs.declared.call.Call.TheVariants.{Read, Write}
 use Rattle.medium.proofs.Arrays.{wrote_denied, denies_line, denies_life}
+use Rattle.medium.proofs.Chains.{chained_none, chained_read, chained_write}
 use Rattle.medium.proofs.Layers.{never, layer_denied}
 use Rattle.gap.specs.Fields.{registers_of}
 use Rattle.gap.specs.Regions.{gap_lines, gap_life, gap_array}
 use Rattle.gap.proofs.Fields.{fields, held_sound, line_there, write_paid, write_accepted, fetched_never, held_counted, held_moved}
-use Rattle.gap.proofs.Written.{from_there, move_accepted, counted_wrote, counted_served, moved_wrote, moved_served}
+use Rattle.gap.proofs.Written.{from_there, move_accepted, counted_wrote, counted_requests, counted_served, moved_wrote, moved_requests, moved_served}
 use Rattle.gap.proofs.layer.GapLayerMedium.write.Goals as goal
 
 pub returns-then-line-count : goal.returns-then-line-count
@@ -30,7 +32,7 @@ returns-then-line-count g c =
       answer = wrote_denied a u c.args.line c.args.value a u NoSuchLine no refl refl;
       below = layer_denied (gaps G) b u (g.M.Medium.pile x.below) a u (Write c.args.line c.args.value) NoSuchLine no;
       memory = refl;
-      effect = tt;
+      effect = refl;
     }
 
 pub returns-then-self-life : goal.returns-then-self-life
@@ -45,7 +47,7 @@ returns-then-self-life g c =
       answer = wrote_denied a u c.args.line c.args.value a u LifeUsed no refl refl;
       below = layer_denied (gaps G) b u (g.M.Medium.pile x.below) a u (Write c.args.line c.args.value) LifeUsed no;
       memory = refl;
-      effect = tt;
+      effect = refl;
     }
 
 pub place-place-requires : goal.place-place-requires
@@ -134,7 +136,10 @@ returns-then-row-self g c =
       answer = counted_wrote G x.life x.taken (fields x) b b1 i p c.args.value u u1 c.in_ok-toll.toll h k e w1 c.count_write.new.row c.count_write.ensures c.if-row-self.true;
       below = counted_served G x.life x.taken (fields x) b b1 i p c.args.value u u1 c.in_ok-toll.toll h k e w1 c.count_write.new.row c.count_write.ensures c.if-row-self.true pile (g.M.Medium.pile c.write.new.self) c.in_ok-toll.ensures.below;
       memory = c.in_ok-toll.ensures.memory;
-      effect = tt;
+      effect =
+          subst (λ q. Chained g.M.Medium x.below q c.write.new.self)
+          (counted_requests G x.life x.taken (fields x) b b1 i p c.args.value u u1 c.in_ok-toll.toll h k e w1 c.count_write.new.row c.count_write.ensures c.if-row-self.true)
+          (chained_write g.M.Medium x.below c.write.new.self c.write.new.self p c.args.value (Ok c.in_ok-toll.toll) [] (record { answer = w1; below = c.in_ok-toll.ensures.below; effect = c.in_ok-toll.ensures.effect }) (chained_none g.M.Medium c.write.new.self));
     }
 
 pub overflow_add-from : goal.overflow_add-from
@@ -266,5 +271,10 @@ returns g c =
           moved_served G x.life x.taken (fields x) b b1 i p c.args.value u u1 c.in_ok-toll.toll h k e w1 c.if-row-self.false b2 u2 c.in_ok-more.more c.in_ok-moved.moved read w2
           c.advance.new.row c.advance.ensures (g.M.Medium.pile x.below) pile1 (g.M.Medium.pile c.write-2.new.self) c.in_ok-toll.ensures.below read_below c.in_ok-more.ensures.below;
       memory = c.in_ok-more.ensures.memory ∙ c.in_ok-toll.ensures.memory;
-      effect = tt;
+      effect =
+          subst (λ q. Chained g.M.Medium x.below q c.write-2.new.self)
+          (moved_requests G x.life x.taken (fields x) b b1 i p c.args.value u u1 c.in_ok-toll.toll h k e w1 c.if-row-self.false b2 u2 c.in_ok-more.more c.in_ok-moved.moved read w2 c.advance.new.row c.advance.ensures)
+          (chained_write g.M.Medium x.below c.write.new.self c.write-2.new.self p c.args.value (Ok c.in_ok-toll.toll) _ (record { answer = w1; below = c.in_ok-toll.ensures.below; effect = c.in_ok-toll.ensures.effect })
+          (chained_read g.M.Medium c.write.new.self c.write-2.new.self (region_copy G (i / x.size)).from _
+          (chained_write g.M.Medium c.write.new.self c.write-2.new.self c.write-2.new.self (region_copy G (i / x.size)).to c.in_ok-moved.moved (Ok c.in_ok-more.more) [] (record { answer = w2; below = c.in_ok-more.ensures.below; effect = c.in_ok-more.ensures.effect }) (chained_none g.M.Medium c.write-2.new.self))));
     }

@@ -6,6 +6,9 @@ use Rattle.refresh.proofs.Powers.{greatest_computed}
 use Rattle.refresh.proofs.Quotients.{quotient_small}
 use Rattle.medium.specs.Law.{left}
 use Rattle.medium.specs.Meaning.{means}
+use Rattle.medium.specs.Pile.{refresh}
+use Rattle.medium.proofs.Fittings.{fitted_new, fitted_none}
+use Rattle.refresh.specs.Refresh.{new_registers}
 use Rattle.refresher.specs.Layer.{refresh_survey}
 use Rattle.refresher.proofs.Making.{survey_yes, denied_not_ok, ok_not_denied, count_some, size_again, life_pays, layer_made, layer_unfit, bounded_none}
 use Rattle.refresher.proofs.layer.RefreshLayer.new.Goals as goal
@@ -27,7 +30,7 @@ returns-then-is_err g c =
     let no : is_err (refresh_survey (length ring) I (length b.lines) (left b)) ≡ true =
     sym (ap is_err es) ∙ sym c.is_err.ensures.value ∙ c.if-is_err.true in
     let w : Round = record { previous = 0; current = 0; turn = 0; pointer = 0 } in
-    record { kept = refl; fit = λ e. absurd (denied_not_ok _ no e); unfit = λ d e. layer_unfit b 1 (replicate 16 0) 1 w _ _ }
+    record { kept = refl; fit = λ e. absurd (denied_not_ok _ no e); unfit = λ d e. layer_unfit b 1 (replicate 16 0) 1 w _ _; fitted = let made = layer_unfit b 1 (replicate 16 0) 1 w (g.M.Medium.wear c.args.below) (g.M.Medium.pile c.args.below) in fitted_none _ b _ _ _ _ _ made.pile made.none made.wear }
 
 pub invariant_of-result-2 : goal.invariant_of-result-2
 invariant_of-result-2 g c =
@@ -105,8 +108,10 @@ returns g c =
     let size_is : c.size_for-size.result ≡ greatest_power (length b.lines) = c.size_for-size.ensures.value ∙ ap greatest_power en in
     let life_is : c.life_for-life.result ≡ life_of I c.size_for-size.result (left b) =
     c.life_for-life.ensures.value ∙ ap (λ r. life_of I c.size_for-size.result r) er in
+    let made = layer_made b c.size_for-size.result I c.life_for-life.result c.table-keys.result ring (g.M.Medium.wear c.args.below) (g.M.Medium.pile c.args.below) (omega arith) (omega arith) fits c.table-keys.ensures.keys size_is life_is in
     record {
       kept = refl;
-      fit = λ e. layer_made b c.size_for-size.result I c.life_for-life.result c.table-keys.result ring _ _ (omega arith) (omega arith) fits c.table-keys.ensures.keys size_is life_is;
+      fit = λ e. made;
+      fitted = fitted_new (refresh (new_registers (greatest_power (length b.lines)) I ring)) b (g.M.Medium.wear c.args.below) (g.M.Medium.pile c.args.below) _ _ _ made.pile made.new made.wear;
       unfit = λ d e. absurd (ok_not_denied _ d yes e);
     }

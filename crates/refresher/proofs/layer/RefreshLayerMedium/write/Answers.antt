@@ -1,20 +1,22 @@
-use Rattle.std.proofs.Common.{◌≡◌, ◌+◌, ◌<◌, ◌≤◌, length, take, refl, ap, ◌∙◌, arith}
+use Rattle.std.proofs.Common.{◌≡◌, ◌+◌, ◌<◌, ◌≤◌, [], length, take, Ok, refl, ap, ◌∙◌, subst, arith}
 use native.Mathlib.Nat.{sub-zero}
 use Rattle.std.proofs.lemmas.List.{length-take-le}
 use Rattle.refresh.specs.Refresh.{pointer_mate, previous_place, current_place, refreshed}
+use Rattle.medium.specs.Chain.{Chained}
 use Rattle.medium.specs.Meaning.{means}
 use Rattle.medium.proofs.Arrays.{wrote_denied, denies_line, denies_life}
+use Rattle.medium.proofs.Chains.{chained_none, chained_read, chained_write}
 use Rattle.medium.proofs.Layers.{never, layer_denied}
 use Rattle.refresher.specs.Layer.{refresh_lines, refresh_life}
 use Rattle.refresher.proofs.Held.{registers_in, held_of, held_sound, held_noted, held_unexchanged, held_exchanged, copies_room}
-use Rattle.refresher.proofs.Written.{fetched_never, line_size, line_lives, line_accepts, first_accepts, second_accepts, previous_in, current_in, noted_wrote, noted_served, unexchanged_wrote, unexchanged_served, exchanged_wrote, exchanged_served}
+use Rattle.refresher.proofs.Written.{fetched_never, line_size, line_lives, line_accepts, first_accepts, second_accepts, previous_in, current_in, noted_wrote, noted_requests, noted_served, unexchanged_wrote, unexchanged_requests, unexchanged_served, exchanged_wrote, exchanged_requests, exchanged_served}
 use Rattle.refresher.proofs.layer.RefreshLayerMedium.write.Goals as goal
 
 pub returns-then-line-count : goal.returns-then-line-count
-returns-then-line-count g c = record { answer = wrote_denied _ _ _ _ _ _ _ (denies_line _ _ _ (omega arith)) refl refl; below = layer_denied _ _ _ _ _ _ _ _ (denies_line _ _ _ (omega arith)); memory = refl; effect = tt }
+returns-then-line-count g c = record { answer = wrote_denied _ _ _ _ _ _ _ (denies_line _ _ _ (omega arith)) refl refl; below = layer_denied _ _ _ _ _ _ _ _ (denies_line _ _ _ (omega arith)); memory = refl; effect = refl }
 
 pub returns-then-self-life : goal.returns-then-self-life
-returns-then-self-life g c = record { answer = wrote_denied _ _ _ _ _ _ _ (denies_life _ _ _ (omega arith) (omega arith)) refl refl; below = layer_denied _ _ _ _ _ _ _ _ (denies_life _ _ _ (omega arith) (omega arith)); memory = refl; effect = tt }
+returns-then-self-life g c = record { answer = wrote_denied _ _ _ _ _ _ _ (denies_life _ _ _ (omega arith) (omega arith)) refl refl; below = layer_denied _ _ _ _ _ _ _ _ (denies_life _ _ _ (omega arith) (omega arith)); memory = refl; effect = refl }
 
 pub returns-in_err-toll : goal.returns-in_err-toll
 returns-in_err-toll g c =
@@ -73,7 +75,9 @@ returns-then-self g c =
       answer = noted_wrote held w1 h l ep;
       below = noted_served held w1 h l ep _ _ c.if-self.true c.in_ok-toll.ensures.below;
       memory = c.in_ok-toll.ensures.memory;
-      effect = tt;
+      effect =
+          subst (λ q. Chained g.M.Medium x.below q c.write.new.self) (noted_requests held w1 h l c.place.ensures.value c.if-self.true)
+          (chained_write g.M.Medium x.below c.write.new.self c.write.new.self _ c.args.value (Ok c.in_ok-toll.toll) [] (record { answer = w1; below = c.in_ok-toll.ensures.below; effect = c.in_ok-toll.ensures.effect }) (chained_none g.M.Medium c.write.new.self));
     }
 
 pub next-after-requires : goal.next-after-requires
@@ -142,7 +146,9 @@ returns-then-mate-round g c =
       answer = unexchanged_wrote held w1 h l ep c.next-after.result ew m;
       below = unexchanged_served held w1 h l ep _ _ c.next-after.result ew d m c.in_ok-toll.ensures.below;
       memory = c.in_ok-toll.ensures.memory;
-      effect = tt;
+      effect =
+          subst (λ q. Chained g.M.Medium x.below q c.write.new.self) (unexchanged_requests held w1 h l ep d m)
+          (chained_write g.M.Medium x.below c.write.new.self c.write.new.self _ c.args.value (Ok c.in_ok-toll.toll) [] (record { answer = w1; below = c.in_ok-toll.ensures.below; effect = c.in_ok-toll.ensures.effect }) (chained_none g.M.Medium c.write.new.self));
     }
 
 pub returns-in_err-mated : goal.returns-in_err-mated
@@ -279,5 +285,11 @@ returns g c =
       answer = exchanged_wrote held w1 h l ep d m ex ey w2 w3 c.next-after.result _ ew refl;
       below = exchanged_served held w1 h l ep d m ex ey w2 w3 _ _ _ _ c.next-after.result ew c.in_ok-toll.ensures.below c.in_ok-mated.ensures.below c.in_ok-moved.ensures.below c.in_ok-first.ensures.below c.in_ok-second.ensures.below;
       memory = c.in_ok-second.ensures.memory ∙ c.in_ok-first.ensures.memory ∙ c.in_ok-toll.ensures.memory;
-      effect = tt;
+      effect =
+          subst (λ q. Chained g.M.Medium x.below q c.write-3.new.self) (exchanged_requests held w1 h l ep d m ex ey w2)
+          (chained_write g.M.Medium x.below c.write.new.self _ _ c.args.value (Ok c.in_ok-toll.toll) _ (record { answer = w1; below = c.in_ok-toll.ensures.below; effect = c.in_ok-toll.ensures.effect })
+          (chained_read g.M.Medium c.write.new.self _ _ _
+          (chained_read g.M.Medium c.write.new.self _ _ _
+          (chained_write g.M.Medium c.write.new.self c.write-2.new.self _ _ c.in_ok-mated.mated (Ok c.in_ok-first.first) _ (record { answer = w2; below = c.in_ok-first.ensures.below; effect = c.in_ok-first.ensures.effect })
+          (chained_write g.M.Medium c.write-2.new.self c.write-3.new.self c.write-3.new.self _ c.in_ok-moved.moved (Ok c.in_ok-second.second) [] (record { answer = w3; below = c.in_ok-second.ensures.below; effect = c.in_ok-second.ensures.effect }) (chained_none g.M.Medium c.write-3.new.self))))));
     }

@@ -1,7 +1,8 @@
-use Rattle.std.proofs.Common.{◌≡◌, ℕ, ◌+◌, ◌-◌, ◌<◌, length, refl, arith}
+use Rattle.std.proofs.Common.{◌≡◌, ℕ, ◌+◌, ◌-◌, ◌<◌, length, Ok, refl, arith}
 use Rattle.medium.specs.Meaning.{means}
 use Rattle.medium.specs.Pile.{placed_lines, paid_life}
 use Rattle.medium.proofs.Arrays.{denies_line, denies_life, wrote_denied}
+use Rattle.medium.proofs.Chains.{chained_one}
 use Rattle.medium.proofs.Layers.{paid_below, layer_denied, never}
 use Rattle.scatter.specs.Scatters.{scatter_size}
 use Rattle.scatter.proofs.Scattered.{below_size, stays_below, scatter_served_write, scatter_grants, scatter_wrote}
@@ -9,11 +10,11 @@ use Rattle.scatter.proofs.layer.ScatterLayerMedium.write.Goals as goal
 
 pub returns-then-line-count : goal.returns-then-line-count
 returns-then-line-count g c =
-    record { answer = wrote_denied _ _ _ _ _ _ _ (denies_line _ _ _ (omega arith)) refl refl; below = layer_denied _ _ _ _ _ _ _ _ (denies_line _ _ _ (omega arith)); memory = refl; effect = tt }
+    record { answer = wrote_denied _ _ _ _ _ _ _ (denies_line _ _ _ (omega arith)) refl refl; below = layer_denied _ _ _ _ _ _ _ _ (denies_line _ _ _ (omega arith)); memory = refl; effect = refl }
 
 pub returns-then-self-life : goal.returns-then-self-life
 returns-then-self-life g c =
-    record { answer = wrote_denied _ _ _ _ _ _ _ (denies_life _ _ _ (omega arith) (omega arith)) refl refl; below = layer_denied _ _ _ _ _ _ _ _ (denies_life _ _ _ (omega arith) (omega arith)); memory = refl; effect = tt }
+    record { answer = wrote_denied _ _ _ _ _ _ _ (denies_life _ _ _ (omega arith) (omega arith)) refl refl; below = layer_denied _ _ _ _ _ _ _ _ (denies_life _ _ _ (omega arith) (omega arith)); memory = refl; effect = refl }
 
 pub returns-in_err-toll : goal.returns-in_err-toll
 returns-in_err-toll g c =
@@ -65,5 +66,5 @@ returns g c =
       answer = scatter_wrote n f back stays undone b b' _ _ x.life x.taken c.args.line c.forward.result c.args.value _ h k c.forward.ensures.answer w.answer;
       below = scatter_served_write n f back stays undone b b' _ _ _ _ x.taken _ c.args.line c.forward.result c.args.value _ h k c.forward.ensures.answer w.answer w.below;
       memory = w.memory;
-      effect = tt;
+      effect = chained_one g.M.Medium x.below c.write.new.self c.forward.result (f c.args.line) c.args.value (Ok c.in_ok-toll.toll) c.forward.ensures.answer (record { answer = w.answer; below = w.below; effect = w.effect });
     }
