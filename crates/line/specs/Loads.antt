@@ -1,6 +1,7 @@
--- A load as bytes. Assumes nothing.
-use Rattle.std.specs.Prelude.{ℕ, ◌^◌, ◌<◌, List, [], ◌∷◌, ◌++◌, FitsSigned, slice_index}
+-- A load as bytes, and as text. Assumes nothing.
+use Rattle.std.specs.Prelude.{ℕ, ◌^◌, ◌<◌, List, [], ◌∷◌, ◌++◌, FitsSigned, codes, decimal, slice_index}
 use Rattle.std.proofs.Common.{of_z, to_z}
+use Rattle.std.specs.Fmt.{signed_decimal}
 use Rattle.std.specs.Int.{w32}
 use Rattle.line.specs.Words.{at16, at32, bytes16, bytes32}
 use Rattle.line.specs.declared.load.Load.{Load}
@@ -24,3 +25,8 @@ load_of bs = record {
   tonnes = at16 bs 12;
   activity = record { 0 = slice_index bs 14 };
 }
+
+-- the five fields of a load, with a space between them
+abbrev pub load_text : Load → List ℕ
+load_text l =
+    decimal l.time ++ (codes " " ++ (signed_decimal l.east ++ (codes " " ++ (signed_decimal l.north ++ (codes " " ++ (decimal l.tonnes ++ (codes " " ++ decimal l.activity.0)))))))

@@ -1,7 +1,9 @@
 //! Why a call is denied.
 
-ghost use Rattle.std.specs.Prelude.{◌≡◌};
+ghost use Rattle.std.specs.Prelude.{◌≡◌, Some, decimal};
 ghost use Rattle.line.specs.Denials.{number};
+
+use std::fmt;
 
 /// The first question of a call that was answered no. Its number is what users and listings see.
 #[derive(Clone, Copy, PartialEq, Eq)]
@@ -44,5 +46,15 @@ impl Denial {
         ensures { result ≡ number self }
     {
         self as u8
+    }
+}
+
+/// A denial is shown as its number.
+impl fmt::Display for Denial {
+    ghost output = { λ d. Some (decimal (number d)) };
+
+    fn fmt<W: fmt::Write>(&self, f: &mut fmt::Formatter<W>) -> fmt::Result {
+        let number = self.number();
+        write!(f, "{number}")
     }
 }

@@ -1,14 +1,18 @@
 //! The load: one entry of the spoil log.
 
-ghost use Rattle.std.specs.Prelude.{◌≡◌};
-ghost use Rattle.line.specs.Loads.{LoadFits, load_bytes, load_of};
+ghost use Rattle.std.specs.Prelude.{◌≡◌, Some};
+ghost use Rattle.line.specs.Loads.{LoadFits, load_bytes, load_of, load_text};
 ghost use Rattle.std.proofs.Common.{rules};
 
 use crate::denial::Denial;
 use crate::kind::LineKind;
+use std::fmt;
 
 /// What the ship was doing. Values past the four named ones have no name, and are kept as they are.
-#[derive(Clone, Copy, PartialEq, Eq)]
+//
+// A byte and no enum: with a variant for the bytes without a name, the byte 2 could be told in two ways, and a load that is written and
+// read back would not be equal.
+#[derive(Clone, Copy, PartialEq, Eq, Default)]
 pub struct Activity(pub u8);
 
 impl Activity {
@@ -22,7 +26,7 @@ impl Activity {
 }
 
 /// One logged load.
-#[derive(Clone, Copy, PartialEq, Eq)]
+#[derive(Clone, Copy, PartialEq, Eq, Default)]
 pub struct Load {
     /// In seconds.
     pub time: u32,
@@ -32,6 +36,36 @@ pub struct Load {
     pub north: i32,
     pub tonnes: u16,
     pub activity: Activity,
+}
+
+/// The bytes of a load, the spare one 0.
+impl From<Load> for [u8; 16] {
+    ghost from_gives = { λ load bytes. LoadFits load × (bytes ≡ load_bytes load) };
+
+    fn from(load: Load) -> [u8; 16] {
+        let mut bytes = [0; 16];
+        bytes[0..4].copy_from_slice(&load.time.to_le_bytes());
+        bytes[4..8].copy_from_slice(&load.east.to_le_bytes());
+        bytes[8..12].copy_from_slice(&load.north.to_le_bytes());
+        bytes[12..14].copy_from_slice(&load.tonnes.to_le_bytes());
+        bytes[14] = load.activity.0;
+        bytes
+    }
+}
+
+/// The load that the bytes spell. The spare one is not looked at.
+impl From<[u8; 16]> for Load {
+    ghost from_gives = { λ bytes load. load ≡ load_of bytes };
+
+    fn from(bytes: [u8; 16]) -> Load {
+        Load {
+            time: u32::from_le_bytes([bytes[0], bytes[1], bytes[2], bytes[3]]),
+            east: i32::from_le_bytes([bytes[4], bytes[5], bytes[6], bytes[7]]),
+            north: i32::from_le_bytes([bytes[8], bytes[9], bytes[10], bytes[11]]),
+            tonnes: u16::from_le_bytes([bytes[12], bytes[13]]),
+            activity: Activity(bytes[14]),
+        }
+    }
 }
 
 impl LineKind for Load {
@@ -54,7 +88,7 @@ impl LineKind for Load {
     }
 
     fn write_to(&self, buf: &mut [u8]) -> Result<(), Denial> {
-        let bytes = image(*self);
+        let bytes = <[u8; 16]>::from(*self);
         if buf.len() != 16 {
             return Err(Denial::WrongLength);
         }
@@ -63,44 +97,24 @@ impl LineKind for Load {
     }
 
     fn read_from(buf: &[u8]) -> Result<Load, Denial> {
-        if buf.len() != 16 {
-            return Err(Denial::WrongLength);
-        }
-        Ok(Load {
-            time: u32::from_le_bytes([buf[0], buf[1], buf[2], buf[3]]),
-            east: i32::from_le_bytes([buf[4], buf[5], buf[6], buf[7]]),
-            north: i32::from_le_bytes([buf[8], buf[9], buf[10], buf[11]]),
-            tonnes: u16::from_le_bytes([buf[12], buf[13]]),
-            activity: Activity(buf[14]),
-        })
+        let bytes = <[u8; 16]>::try_from(buf).map_err(|_| Denial::WrongLength)?;
+        Ok(Load::from(bytes))
     }
 }
 
-// The bytes of a load, the spare one 0. By value, so that each field is known to fit its type.
-fn image(load: Load) -> [u8; 16]
-    ensures fit { LoadFits load }
-    ensures bytes { result ≡ load_bytes load }
-{
-    let t = load.time.to_le_bytes();
-    let e = load.east.to_le_bytes();
-    let n = load.north.to_le_bytes();
-    let w = load.tonnes.to_le_bytes();
-    [
-        t[0],
-        t[1],
-        t[2],
-        t[3],
-        e[0],
-        e[1],
-        e[2],
-        e[3],
-        n[0],
-        n[1],
-        n[2],
-        n[3],
-        w[0],
-        w[1],
-        load.activity.0,
-        0,
-    ]
+/// The fields of a load, with a space between them.
+impl fmt::Display for Load {
+    ghost output = { λ l. Some (load_text l) };
+
+    fn fmt<W: fmt::Write>(&self, f: &mut fmt::Formatter<W>) -> fmt::Result {
+        let Load {
+            time,
+            east,
+            north,
+            tonnes,
+            activity,
+        } = *self;
+        let activity = activity.0;
+        write!(f, "{time} {east} {north} {tonnes} {activity}")
+    }
 }

@@ -36,9 +36,7 @@ impl LineKind for u64 {
     }
 
     fn read_from(buf: &[u8]) -> Result<u64, Denial> {
-        let Ok(bytes) = <[u8; 8]>::try_from(buf) else {
-            return Err(Denial::WrongLength);
-        };
+        let bytes = <[u8; 8]>::try_from(buf).map_err(|_| Denial::WrongLength)?;
         Ok(u64::from_le_bytes(bytes))
     }
 }

@@ -3,13 +3,13 @@
 -- layer's effect, and a read or a denied write alters nothing.
 use Rattle.std.proofs.Common.{◌≡◌, ℕ, ◌+◌, ◌<◌, List, [], ◌∷◌, ◌++◌, length, get_or, take, set, Some, None, Ok, Err, Option, Result, sym, refl, ap, ◌∙◌, subst}
 use Rattle.std.proofs.lemmas.List.{take_more, take_more_set}
+use Rattle.line.specs.Answers.{Answer}
 use Rattle.line.specs.declared.denial.Denial.{Denial}
 use Rattle.medium.specs.Array.{Array, denied_by, unless_denied, next, after, reply}
 use Rattle.medium.specs.Chain.{WriteStep, Chained, write_answer, InTurn, LayerEffect}
 use Rattle.medium.specs.Law.{reply_of}
 use Rattle.medium.specs.Meaning.{means}
 use Rattle.medium.specs.Pile.{Layer, place, requests, asked_at, layer_at, layer_after, asks, Pile, over, Served}
-use Rattle.medium.specs.declared.call.Answer.{Answer}
 use Rattle.medium.specs.declared.call.Call.{Call}
 use Rattle.medium.specs.declared.call.Call.TheVariants.{Read, Write}
 use Rattle.medium.specs.declared.medium.Medium.{Ghosts}

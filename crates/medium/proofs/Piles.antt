@@ -2,7 +2,9 @@
 -- accepted call is one write or read below and as many writes more as there are copies; and the rest follows by recursion over the pile.
 use Rattle.std.proofs.Common.{◌≡◌, ℕ, ◌+◌, ◌-◌, ◌/◌, ◌%◌, ◌^◌, ◌<◌, true, false, cond, List, [], ◌∷◌, ◌++◌, map, length, get_or, take, drop, set, Some, None, Ok, Err, Option, Result, sym, refl, ap, ◌∙◌, subst, arith}
 use Rattle.std.proofs.lemmas.List.{append-nil, append_assoc, map-append, take_more, take_more_set, drop-set-lt, drop-drop}
+use Rattle.line.specs.Answers.{Answer}
 use Rattle.line.specs.Copies.{Copy}
+use Rattle.line.specs.declared.answer.Accepted.TheVariants.{Line, Toll}
 use Rattle.line.specs.declared.denial.Denial.{Denial}
 use Rattle.startgap.specs.Regions as startgap
 use Rattle.startgap.specs.Regions.{row_at, region_copy}
@@ -11,8 +13,6 @@ use Rattle.refresh.specs.Refresh as refreshing
 use Rattle.medium.specs.Array.{Array, unless_denied, denied_by, accepted, next, after, Reply, fetched, read_reply, write_reply, reply, replies, Wrote}
 use Rattle.medium.specs.Law.{reply_of, tolls, accepted_one, accepted_writes, Ran, Books}
 use Rattle.medium.specs.Pile.{Layer, scatter, gaps, refresh, place, due_copies, turned, made, reads_of, writes_of, requests, asked_at, layer_at, asks, layer_after, Undenied, Pile, bottom, over, Served, bottom_array, bottom_wear, copies}
-use Rattle.medium.specs.declared.call.Answer.{Answer}
-use Rattle.medium.specs.declared.call.Answer.TheVariants.{Line, Toll, Denied}
 use Rattle.medium.specs.declared.call.Call.{Call}
 use Rattle.medium.specs.declared.call.Call.TheVariants.{Read, Write}
 use Rattle.medium.proofs.Arrays.{next_read, after_append, replies_append}
@@ -191,19 +191,19 @@ mod_step w w' x h e = omega arith
 mod_more : (w w' w'' x y : ℕ) → w' % 2 ^ 64 ≡ (w + x) % 2 ^ 64 → w'' % 2 ^ 64 ≡ (w' + y) % 2 ^ 64 → w'' % 2 ^ 64 ≡ (w + (x + y)) % 2 ^ 64
 mod_more w w' w'' x y h k = omega arith
 
-pub ran_line : {A : Type 0} (t : Pile A) (a : Array A) (w i : ℕ) (v : A) → Ok v ≡ fetched a.lines i → Served t a w (Read i ∷ []) t w → Ran t a w (Read i ∷ []) (Line v ∷ []) t a w
+pub ran_line : {A : Type 0} (t : Pile A) (a : Array A) (w i : ℕ) (v : A) → Ok v ≡ fetched a.lines i → Served t a w (Read i ∷ []) t w → Ran t a w (Read i ∷ []) (Ok (Line v) ∷ []) t a w
 unfolding after replies tolls
 ran_line t a w i v e s = record { answered = ap (λ r. read_reply r ∷ []) e; array = sym (next_read a i); wear = ap (λ n. n % 2 ^ 64) (omega arith); served = s }
 
-pub ran_no_line : {A : Type 0} (t : Pile A) (a : Array A) (w i : ℕ) (d : Denial) → Err d ≡ fetched a.lines i → Served t a w (Read i ∷ []) t w → Ran t a w (Read i ∷ []) (Denied d ∷ []) t a w
+pub ran_no_line : {A : Type 0} (t : Pile A) (a : Array A) (w i : ℕ) (d : Denial) → Err d ≡ fetched a.lines i → Served t a w (Read i ∷ []) t w → Ran t a w (Read i ∷ []) (Err d ∷ []) t a w
 unfolding after replies tolls
 ran_no_line t a w i d e s = record { answered = ap (λ r. read_reply r ∷ []) e; array = sym (next_read a i); wear = ap (λ n. n % 2 ^ 64) (omega arith); served = s }
 
-pub ran_toll : {A : Type 0} (t t' : Pile A) (a a' : Array A) (w w' i : ℕ) (v : A) (x : ℕ) → Wrote a w i v a' w' (Ok x) → Served t a w (Write i v ∷ []) t' w' → Ran t a w (Write i v ∷ []) (Toll x ∷ []) t' a' w'
+pub ran_toll : {A : Type 0} (t t' : Pile A) (a a' : Array A) (w w' i : ℕ) (v : A) (x : ℕ) → Wrote a w i v a' w' (Ok x) → Served t a w (Write i v ∷ []) t' w' → Ran t a w (Write i v ∷ []) (Ok (Toll x) ∷ []) t' a' w'
 unfolding after replies tolls
 ran_toll {A} t t' a a' w w' i v x h s = record { answered = ap (λ o. write_reply {A = A} o ∷ []) (sym h.answer.0); array = h.array; wear = mod_step w w' x h.answer.1.0 h.answer.1.1; served = s }
 
-pub ran_no_write : {A : Type 0} (t t' : Pile A) (a a' : Array A) (w w' i : ℕ) (v : A) (d : Denial) → Wrote a w i v a' w' (Err d) → Served t a w (Write i v ∷ []) t' w' → Ran t a w (Write i v ∷ []) (Denied d ∷ []) t' a' w'
+pub ran_no_write : {A : Type 0} (t t' : Pile A) (a a' : Array A) (w w' i : ℕ) (v : A) (d : Denial) → Wrote a w i v a' w' (Err d) → Served t a w (Write i v ∷ []) t' w' → Ran t a w (Write i v ∷ []) (Err d ∷ []) t' a' w'
 unfolding after replies tolls
 ran_no_write {A} t t' a a' w w' i v d h s = record { answered = ap (λ o. write_reply {A = A} o ∷ []) (sym h.answer.0); array = h.array; wear = ap (λ n. n % 2 ^ 64) (let k = h.answer.1 in omega arith); served = s }
 

@@ -1,12 +1,12 @@
 -- Calls that are put to a medium in turn, with all that each write leaves; and what a layer's write leaves. Assumes nothing.
 use Rattle.std.specs.Prelude.{◌≡◌, ℕ, List, [], ◌∷◌, Ok, Err, Result}
+use Rattle.line.specs.Answers.{Answer}
+use Rattle.line.specs.declared.answer.Accepted.TheVariants.{Toll}
 use Rattle.line.specs.declared.denial.Denial.{Denial}
 use Rattle.medium.specs.Array.{Wrote, reply}
 use Rattle.medium.specs.Law.{reply_of}
 use Rattle.medium.specs.Meaning.{means}
 use Rattle.medium.specs.Pile.{Layer, requests, Served}
-use Rattle.medium.specs.declared.call.Answer.{Answer}
-use Rattle.medium.specs.declared.call.Answer.TheVariants.{Toll, Denied}
 use Rattle.medium.specs.declared.call.Call.{Call}
 use Rattle.medium.specs.declared.call.Call.TheVariants.{Read, Write}
 use Rattle.medium.specs.declared.medium.Medium.{Ghosts}
@@ -25,8 +25,8 @@ Chained {M} g m (Write i v ∷ cs) n = (k : M) × ((r : Result ℕ Denial) × Wr
 
 -- what a write answered, as an answer to a call
 abbrev pub write_answer : {A : Type 0} → Result ℕ Denial → Answer A
-write_answer (Ok t) = Toll t
-write_answer (Err d) = Denied d
+write_answer (Ok t) = Ok (Toll t)
+write_answer (Err d) = Err d
 
 -- the calls, put to the medium m one after the other, each answered as the trait says, lead to n
 unfoldable pub InTurn : {M A : Type 0} → Ghosts M A → M → List (Call A) → List (Answer A) → M → Type 0

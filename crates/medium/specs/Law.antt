@@ -1,7 +1,9 @@
 -- The law of every pile over every succession of calls: as a flat array, with books that balance, and evenly. Assumes nothing.
 use Rattle.std.specs.Prelude.{◌≡◌, ℕ, ◌+◌, ◌-◌, ◌*◌, ◌%◌, ◌^◌, ◌<◌, ◌≤◌, ◌⊎◌, List, [], ◌∷◌, ◌++◌, map, length, None, Ok, Err, Result, slice_index_or}
 use Rattle.std.specs.List.{AllByRecursion}
+use Rattle.line.specs.Answers.{Answer}
 use Rattle.line.specs.Copies.{Copy}
+use Rattle.line.specs.declared.answer.Accepted.TheVariants.{Line, Toll}
 use Rattle.line.specs.declared.denial.Denial.{Denial as DeniedBy}
 use Rattle.line.specs.declared.denial.Denial.TheVariants.{LifeUsed}
 use Rattle.startgap.specs.Life as startgap
@@ -12,21 +14,19 @@ use Rattle.refresh.specs.Powers.{GreatestPower}
 use Rattle.refresh.specs.Refresh.{Registers, new_registers, place_of}
 use Rattle.medium.specs.Array.{Array, Reply, line, written, denied, denied_by, unless_denied, next, after, reply, replies}
 use Rattle.medium.specs.Pile.{Layer, scatter, gaps, refresh, place, due_copies, made, layer_at, asks, Pile, bottom, over, Served, bottom_array, bottom_wear, copies, placed_lines}
-use Rattle.medium.specs.declared.call.Answer.{Answer}
-use Rattle.medium.specs.declared.call.Answer.TheVariants.{Line, Toll, Denied}
 use Rattle.medium.specs.declared.call.Call.{Call}
 use Rattle.medium.specs.declared.call.Call.TheVariants.{Read, Write}
 
 -- ---- answers: the flat array's reply, which has no toll; the toll; and how many replies are to accepted writes
 abbrev pub reply_of : {A : Type 0} → Answer A → Reply A
-reply_of (Line v) = line v
-reply_of (Toll t) = written
-reply_of (Denied d) = denied d
+reply_of (Ok (Line v)) = line v
+reply_of (Ok (Toll t)) = written
+reply_of (Err d) = denied d
 
 abbrev pub toll : {A : Type 0} → Answer A → ℕ
-toll (Line v) = 0
-toll (Toll t) = t
-toll (Denied d) = 0
+toll (Ok (Line v)) = 0
+toll (Ok (Toll t)) = t
+toll (Err d) = 0
 
 unfoldable pub tolls : {A : Type 0} → List (Answer A) → ℕ
 tolls [] = 0

@@ -2,6 +2,7 @@
 
 #![tactic(auto)]
 
+pub mod ask;
 pub mod call;
 pub mod lent;
 pub mod medium;
