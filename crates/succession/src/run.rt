@@ -1,30 +1,14 @@
 //! Carries out a succession of calls on any medium.
 
-ghost use Rattle.std.specs.Prelude.{◌≡◌, min, [], ◌∷◌, length, take, drop};
+ghost use Rattle.std.specs.Prelude.{◌≡◌, min, length, take, drop};
 ghost use Rattle.medium.specs.Chain.{InTurn};
-ghost use Rattle.medium.specs.Law.{Ran, Law};
+ghost use Rattle.medium.specs.Law.{Law};
 ghost use Rattle.medium.specs.Meaning.{means};
 
-use medium::call::{Answer, Call};
+use line::answer::Answer;
+use medium::ask::ask;
+use medium::call::Call;
 use medium::medium::Medium;
-
-// Puts one call to a medium.
-fn ask<M: Medium>(pile: &mut M, call: Call<M::Line>) -> Answer<M::Line>
-    ensures memory { M.Medium.memory pile.new ≡ M.Medium.memory pile.old }
-    ensures turn { InTurn M.Medium pile.old (call ∷ []) (result ∷ []) pile.new }
-    ensures ran { Ran (M.Medium.pile pile.old) (means M.Medium pile.old) (M.Medium.wear pile.old) (call ∷ []) (result ∷ []) (M.Medium.pile pile.new) (means M.Medium pile.new) (M.Medium.wear pile.new) }
-{
-    match call {
-        Call::Read(line) => match (*pile).read(line) {
-            Ok(value) => Answer::Line(value),
-            Err(denial) => Answer::Denied(denial),
-        },
-        Call::Write(line, value) => match (*pile).write(line, value) {
-            Ok(toll) => Answer::Toll(toll),
-            Err(denial) => Answer::Denied(denial),
-        },
-    }
-}
 
 /// Carries out calls in their order, as far as there is room for their answers, and answers how many those were.
 ///
@@ -42,6 +26,7 @@ pub fn carry_out<M: Medium>(
     ensures law { Law (M.Medium.pile pile.old) (means M.Medium pile.old) (M.Medium.wear pile.old) (take result calls.now) (take result answers.new) (M.Medium.pile pile.new) (means M.Medium pile.new) (M.Medium.wear pile.new) }
 {
     let n = calls.len().min(answers.len());
+    // By an index: of slots written through `answers.iter_mut().zip(calls)` a proof knows nothing afterwards.
     for i in 0..n {
         answers[i] = ask(pile, calls[i]);
     }
