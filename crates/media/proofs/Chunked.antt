@@ -1,11 +1,10 @@
 -- The lines of a byte medium. Writing one chunk of a list of bytes changes that one value of its chunks: by induction over the chunks,
 -- since the part that is written lies in the first chunk or past it. A count more is one more in the sum.
-use Rattle.std.proofs.Common.{◌≡◌, ℕ, zero, suc, ◌+◌, ◌-◌, ◌*◌, ◌<◌, ◌≤◌, Bool, true, false, cond, eqb, leb, List, [], ◌∷◌, ◌++◌, length, get_or, take, drop, set, replicate, is_err, Ok, Err, sum, Result, sym, refl, ap, ◌∙◌, mul-le-mul_right, suc-mul, zero-mul, arith, length-drop, eq-eqb, ne_eqb, eqb-true, le-leb}
+use Rattle.std.proofs.Common.{◌≡◌, ℕ, zero, suc, ◌+◌, ◌-◌, ◌*◌, ◌<◌, ◌≤◌, Bool, true, false, cond, eqb, List, [], ◌∷◌, ◌++◌, length, get_or, take, drop, set, replicate, is_err, Ok, Err, sum, Result, sym, refl, ap, ◌∙◌, mul-le-mul_right, suc-mul, zero-mul, arith, length-drop, eq-eqb, ne_eqb, eqb-true}
 use borrow.Rule.Slice.PartMut.{put_mid, same_len_mid}
 use Rattle.std.proofs.lemmas.List.{take_at, drop_at, drop-append-le, drop-take, drop-drop, length-take-le, length-set}
-use Rattle.std.proofs.lemmas.Slice.{take-put_mid_below, put_mid-paste}
+use Rattle.std.proofs.lemmas.Slice.{take-put_mid_below}
 use Rattle.std.proofs.lemmas.List.Sums.{sum_by-set, get_or-le-sum_by, sum_by-cons}
-use lib.Seq.{paste}
 use Rattle.line.specs.declared.denial.Denial.{Denial}
 use Rattle.medium.specs.Array.{Array, Wrote, fetched}
 use Rattle.medium.proofs.Arrays.{fetched_at, wrote_accepted}
@@ -108,14 +107,19 @@ pub line_room : {V : Type 0} (get : List ℕ → V) (w v n i : ℕ) (bs : List �
 line_room get w v n i bs h e = let k = line_there get w n i bs h in let k1 = k.1 in omega (arith, room i n w v k.0 e)
 
 -- ---- a line read
-pub line_read : {V : Type 0} (get : List ℕ → V) (w n i : ℕ) (bs : List ℕ) (d : Denial) (r : Result V Denial)
-    → i < length (lines_in get w n bs) → r ≡ cond (leb (i * w + w) (length bs)) (Ok (get (take w (drop (i * w) bs)))) (Err d)
+pub part_at : (i v w : ℕ) (bs : List ℕ) → v ≡ w → take (i * v + v - i * v) (drop (i * v) bs) ≡ take w (drop (i * w) bs)
+part_at i v w bs e =
+    let z : i * v + v - i * v ≡ w = omega arith in
+    ap (λ (k : ℕ). take k (drop (i * v) bs)) z ∙ ap (λ (k : ℕ). take w (drop (i * k) bs)) e
+
+pub line_read : {V : Type 0} (get : List ℕ → V) (w n i : ℕ) (bs part : List ℕ) (d : Denial) (r : Result V Denial)
+    → i < length (lines_in get w n bs) → part ≡ take w (drop (i * w) bs) → r ≡ cond (eqb (length part) w) (Ok (get part)) (Err d)
     → r ≡ fetched (lines_in get w n bs) i
-line_read {V} get w n i bs d r h e =
+line_read {V} get w n i bs part d r h ep e =
     let k = line_there get w n i bs h in
     let x : V = get (take w (drop (i * w) bs)) in
-    let t = le-leb (i * w + w) (length bs) (line_room get w w n i bs h refl) in
-    e ∙ ap (λ (b : Bool). cond b (Ok x) (Err d)) t
+    e ∙ ap (λ (b : Bool). cond b (Ok (get part)) (Err d)) (eq-eqb (length part) w (ap length ep ∙ part_long i n w bs k.0 k.1))
+    ∙ ap (λ (l : List ℕ). Ok (get l)) ep
     ∙ fetched_at (lines_in get w n bs) i x h (sym (ap (λ (l : List V). get_or l i x) (lines_are get w n bs k.1) ∙ getD_chunks get w n i bs x k.0))
 
 -- ---- a line written
@@ -133,12 +137,12 @@ lines_laid {V} get w n i bs ys v h el ev =
     ∙ ap (λ (x : V). set (chunks get w n bs) i x) ev
     ∙ ap (λ (l : List V). set l i v) (sym (lines_are get w n bs k.1))
 
--- what the loop of the store leaves
-pub paste_laid : (i v w : ℕ) (bs xs ys zs : List ℕ) → v ≡ w → xs ≡ ys → length ys ≡ w → zs ≡ paste bs (i * v) xs (length xs) → zs ≡ laid bs (i * w) ys
-paste_laid i v w bs xs ys zs ev ex el ez =
-    let e : length xs ≡ w = ap length ex ∙ el in
-    ez ∙ ap (λ (k : ℕ). paste bs (i * k) xs (length xs)) ev
-    ∙ sym (put_mid-paste (i * w) w bs xs xs (length xs) refl e refl)
+-- what a value leaves that is written into its part of the bytes
+pub mid_laid : (i v w : ℕ) (bs xs ys : List ℕ) → v ≡ w → xs ≡ ys → length ys ≡ w → put_mid (i * v) (i * v + v - i * v) bs xs ≡ laid bs (i * w) ys
+mid_laid i v w bs xs ys ev ex el =
+    let e : i * v + v - i * v ≡ w = omega arith in
+    ap (λ (k : ℕ). put_mid (i * v) k bs xs) e
+    ∙ ap (λ (k : ℕ). put_mid (i * k) w bs xs) ev
     ∙ ap (λ (l : List ℕ). put_mid (i * w) w bs l) ex
     ∙ sym (laid_mid w (i * w) bs ys el)
 
@@ -162,13 +166,6 @@ write_wrote {V} get w bs zs cs cs' life life' i v ys h k ec el ez ly gy =
 -- one count more is still the sum that is kept
 pub counts_more : (cs cs' : List ℕ) (i : ℕ) → i < length cs → cs' ≡ set cs i (get_or cs i 0 + 1) → (length cs' ≡ length cs) × (sum cs' ≡ sum cs + 1)
 counts_more cs cs' i h e = (ap length e ∙ length-set cs i _, ap sum e ∙ sum_more cs i h)
-
--- ---- a value that a test picks
-pub picked : {X : Type 0} (a b : ℕ) (x y z : X) → a ≤ b → z ≡ cond (leb a b) x y → z ≡ x
-picked a b x y z h e = e ∙ ap (λ (t : Bool). cond t x y) (le-leb a b h)
-
-pub to_picked : {X : Type 0} (a b : ℕ) (x y z : X) → a ≤ b → z ≡ x → z ≡ cond (leb a b) x y
-to_picked a b x y z h e = e ∙ sym (ap (λ (t : Bool). cond t x y) (le-leb a b h))
 
 -- ---- the survey
 pub survey_few : (w n life long : ℕ) → is_err (byte_survey w n life long) ≡ false → n ≤ 4096

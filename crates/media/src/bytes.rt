@@ -1,20 +1,20 @@
 //! The byte medium: lent bytes, and beside them the count of each line's writes. Every toll is 1.
 
 ghost use Rattle.std.specs.Prelude.{◌≡◌, ℕ, ◌+◌, ◌*◌, ◌≤◌, List, [], ◌∷◌, length, take, drop, replicate, if◌then◌else◌, Ok, Err, sum, nat_le};
-ghost use Rattle.std.proofs.Math.Seq.{paste};
 ghost use Rattle.line.specs.declared.denial.Denial.{Denial as Denied};
 ghost use Rattle.line.specs.declared.denial.Denial.TheVariants.{NoSuchLine};
 ghost use Rattle.medium.specs.Array.{Wrote};
+ghost use Rattle.medium.specs.Meaning.{means};
 ghost use Rattle.medium.specs.Pile.{bottom, Served};
 ghost use Rattle.medium.specs.declared.call.Call.TheVariants.{Write};
 ghost use Rattle.media.specs.Bytes.{byte_survey, lines_in, byte_array, bytes_after, counts_after};
+ghost use Rattle.media.specs.Cells.{MadeAs};
 
+use crate::cells;
 use line::denial::Denial;
 use line::kind::LineKind;
 use medium::medium::Medium;
 use std::marker::PhantomData;
-
-mod making;
 
 /// A medium whose lines lie in lent bytes, one after another, each with a count of its writes.
 #[derive(Drop)]
@@ -34,43 +34,37 @@ pub struct ByteMedium<'a, K> {
 pub fn survey<K: LineKind>(count: usize, life: u64, bytes: usize) -> Result<(), Denial>
     ensures { result ≡ byte_survey K.LineKind.width count life bytes }
 {
-    if count < 1 || count > 4096 {
-        return Err(Denial::CountOutOfRange);
-    }
-    if life < 1 || life > 4294967295 {
-        return Err(Denial::LifeOutOfRange);
-    }
+    cells::survey(count, life)?;
     if bytes != count * K::width() {
         return Err(Denial::WrongLength);
     }
     Ok(())
 }
 
-// The line that stands in `bytes` at that number.
-fn line_at<K: LineKind>(bytes: &[u8], line: u16) -> Result<K, Denial>
-    ensures { result ≡ (if nat_le (line * K.LineKind.width + K.LineKind.width) (length bytes.now) then Ok (K.LineKind.reading (take K.LineKind.width (drop (line * K.LineKind.width) bytes.now))) else Err NoSuchLine) }
-{
-    let width = K::width();
-    let at = line as usize * width;
-    if at + width > bytes.len() {
-        return Err(Denial::NoSuchLine);
-    }
-    K::read_from(&bytes[at..at + width])
-}
-
 impl<'a, K: LineKind> ByteMedium<'a, K> {
-    // Copies `line` into the bytes from `at` on, where there is room for it.
-    fn store(&mut self, at: usize, line: &[u8])
-        ensures rest { (self.new.life ≡ self.old.life) × (self.new.taken ≡ self.old.taken) × (self.new.counts.now ≡ self.old.counts.now) }
-        ensures bytes { self.new.bytes.now ≡ (if nat_le (at + length line.now) (length self.old.bytes.now) then paste self.old.bytes.now at line.now (length line.now) else self.old.bytes.now) }
-        ensures memory { (self.new.bytes.ghost_name ≡ self.old.bytes.ghost_name) × (self.new.counts.ghost_name ≡ self.old.counts.ghost_name) }
+    /// A medium of the lines in `bytes`, with each count set to 0 and none of its life used.
+    /// Where the survey says no, it has no lines, life 0 and none of the memory, all of which stays unaltered.
+    pub fn new(bytes: &'a mut [u8], counts: &'a mut [u32], life: u64) -> ByteMedium<'a, K>
+        ensures fit { byte_survey K.LineKind.width (length counts.old) life (length bytes.old) ≡ Ok tt → (result.bytes.now ≡ bytes.old) × (result.counts.now ≡ replicate (length counts.old) 0) × (result.life ≡ life) × (result.bytes.ghost_name ≡ bytes.entry.ghost_name) × (result.counts.ghost_name ≡ counts.entry.ghost_name) }
+        ensures unfit { (d : Denied) → byte_survey K.LineKind.width (length counts.old) life (length bytes.old) ≡ Err d → (result.bytes.now ≡ []) × (result.counts.now ≡ []) × (result.life ≡ 0) }
+        ensures means { MadeAs (byte_survey K.LineKind.width (length counts.old) life (length bytes.old)) (byte_array K.LineKind.reading K.LineKind.width bytes.old (replicate (length counts.old) 0) life) (means ⟦<ByteMedium<'a, K> as Medium>⟧ result) (⟦<ByteMedium<'a, K> as Medium>⟧.wear result) }
     {
-        let room = self.bytes.len();
-        if at > room || line.len() > room - at {
-            return;
+        if survey::<K>(counts.len(), life, bytes.len()).is_err() {
+            return ByteMedium {
+                bytes: &mut [],
+                counts: &mut [],
+                life: 0,
+                taken: 0,
+                kind: PhantomData,
+            };
         }
-        for j in 0..line.len() {
-            self.bytes[at + j] = line[j];
+        counts.fill(0);
+        ByteMedium {
+            bytes,
+            counts,
+            life: life as u32,
+            taken: 0,
+            kind: PhantomData,
         }
     }
 }
@@ -117,15 +111,12 @@ impl<'a, K: LineKind> Medium for ByteMedium<'a, K> {
         if line >= self.count() {
             return Err(Denial::NoSuchLine);
         }
-        line_at(self.bytes, line)
+        let width = K::width();
+        let at = line as usize * width;
+        K::read_from(&self.bytes[at..at + width])
     }
 
-    fn write(&mut self, line: u16, value: K) -> Result<u64, Denial>
-        ensures answer { Wrote (byte_array K.LineKind.reading K.LineKind.width self.old.bytes.now self.old.counts.now self.old.life) (sum self.old.counts.now) line value (byte_array K.LineKind.reading K.LineKind.width self.new.bytes.now self.new.counts.now self.new.life) (sum self.new.counts.now) result }
-        ensures below { Served bottom (byte_array K.LineKind.reading K.LineKind.width self.old.bytes.now self.old.counts.now self.old.life) (sum self.old.counts.now) (Write line value ∷ []) bottom (sum self.new.counts.now) }
-        ensures memory { (self.new.bytes.ghost_name ∷ self.new.counts.ghost_name ∷ []) ≡ (self.old.bytes.ghost_name ∷ self.old.counts.ghost_name ∷ []) }
-        ensures effect { (self.new.bytes.now ≡ bytes_after result self.old.bytes.now (line * K.LineKind.width) (K.LineKind.writing value)) × (self.new.counts.now ≡ counts_after result self.old.counts.now line) }
-    {
+    fn write(&mut self, line: u16, value: K) -> Result<u64, Denial> {
         if line >= (*self).count() {
             return Err(Denial::NoSuchLine);
         }
@@ -133,10 +124,8 @@ impl<'a, K: LineKind> Medium for ByteMedium<'a, K> {
             return Err(Denial::LifeUsed);
         }
         let width = K::width();
-        let mut buf = [0u8; 64];
-        let part = &mut buf[0..width];
-        value.write_to(part)?;
-        self.store(line as usize * width, part);
+        let at = line as usize * width;
+        value.write_to(&mut self.bytes[at..at + width])?;
         self.counts[line as usize] += 1;
         self.taken += 1;
         Ok(1)

@@ -3,14 +3,13 @@
 ghost use Rattle.std.specs.Prelude.{◌≡◌, ℕ, ◌≤◌, List, [], ◌∷◌, length, Ok, Err};
 ghost use Rattle.line.specs.declared.denial.Denial.{Denial as Denied};
 ghost use Rattle.medium.specs.Array.{Wrote};
+ghost use Rattle.medium.specs.Meaning.{means};
 ghost use Rattle.medium.specs.Pile.{bottom, Served};
 ghost use Rattle.medium.specs.declared.call.Call.TheVariants.{Write};
-ghost use Rattle.media.specs.Cells.{cell_survey, cell_array, cells_after};
+ghost use Rattle.media.specs.Cells.{cell_survey, cell_array, cells_after, MadeAs};
 
 use line::denial::Denial;
 use medium::medium::Medium;
-
-mod making;
 
 /// A medium whose lines are the values of a lent slice.
 #[derive(Drop)]
@@ -26,13 +25,36 @@ pub struct CellMedium<'a, V> {
 pub fn survey(count: usize, life: u64) -> Result<(), Denial>
     ensures { result ≡ cell_survey count life }
 {
-    if count < 1 || count > 4096 {
+    if !(1..=4096).contains(&count) {
         return Err(Denial::CountOutOfRange);
     }
-    if life < 1 || life > 4294967295 {
+    if !(1..=u64::from(u32::MAX)).contains(&life) {
         return Err(Denial::LifeOutOfRange);
     }
     Ok(())
+}
+
+impl<'a, V: Copy> CellMedium<'a, V> {
+    /// A medium of the values in `cells`, none of its life used.
+    /// Where the survey says no, it has no lines, life 0 and none of the memory.
+    pub fn new(cells: &'a mut [V], life: u64) -> CellMedium<'a, V>
+        ensures fit { cell_survey (length cells.old) life ≡ Ok tt → (result.cells.now ≡ cells.old) × (result.cells.ghost_name ≡ cells.entry.ghost_name) × (result.life ≡ life) × (result.taken ≡ 0) }
+        ensures unfit { (d : Denied) → cell_survey (length cells.old) life ≡ Err d → (result.cells.now ≡ []) × (result.life ≡ 0) × (result.taken ≡ 0) }
+        ensures means { MadeAs (cell_survey (length cells.old) life) (cell_array cells.old 0 life) (means ⟦<CellMedium<'a, V> as Medium>⟧ result) (⟦<CellMedium<'a, V> as Medium>⟧.wear result) }
+    {
+        if survey(cells.len(), life).is_err() {
+            return CellMedium {
+                cells: &mut [],
+                life: 0,
+                taken: 0,
+            };
+        }
+        CellMedium {
+            cells,
+            life: life as u32,
+            taken: 0,
+        }
+    }
 }
 
 impl<'a, V: Copy> Medium for CellMedium<'a, V> {
@@ -69,18 +91,13 @@ impl<'a, V: Copy> Medium for CellMedium<'a, V> {
     }
 
     fn read(&self, line: u16) -> Result<V, Denial> {
-        match self.cells.get(line as usize) {
-            Some(value) => Ok(*value),
-            None => Err(Denial::NoSuchLine),
-        }
+        self.cells
+            .get(line as usize)
+            .copied()
+            .ok_or(Denial::NoSuchLine)
     }
 
-    fn write(&mut self, line: u16, value: V) -> Result<u64, Denial>
-        ensures answer { Wrote (cell_array self.old.cells.now self.old.taken self.old.life) self.old.taken line value (cell_array self.new.cells.now self.new.taken self.new.life) self.new.taken result }
-        ensures below { Served bottom (cell_array self.old.cells.now self.old.taken self.old.life) self.old.taken (Write line value ∷ []) bottom self.new.taken }
-        ensures memory { (self.new.cells.ghost_name ∷ []) ≡ (self.old.cells.ghost_name ∷ []) }
-        ensures effect { self.new.cells.now ≡ cells_after result self.old.cells.now line value }
-    {
+    fn write(&mut self, line: u16, value: V) -> Result<u64, Denial> {
         if line >= (*self).count() {
             return Err(Denial::NoSuchLine);
         }
