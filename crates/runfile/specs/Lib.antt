@@ -3,3 +3,4 @@ pub mod Faults
 pub mod Layout
 pub mod RunFile
 pub mod Slots
+pub mod Texts

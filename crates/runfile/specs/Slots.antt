@@ -1,10 +1,10 @@
 -- Slots: the letters of their requests, the values of an answer, and the slot of a request. Assumes nothing.
-use Rattle.std.specs.Prelude.{ℕ, pos}
+use Rattle.std.specs.Prelude.{ℕ, pos, Some, None, Ok, Err, Option}
+use Rattle.line.specs.Answers.{Answer}
 use Rattle.line.specs.Denials.{number as denial_number}
+use Rattle.line.specs.declared.answer.Accepted.TheVariants.{Line, Toll}
 use Rattle.line.specs.declared.load.Load.{Load}
 use Rattle.runfile.specs.declared.request.Request.{Request}
-use Rattle.runfile.specs.declared.slot.Answer.{Answer}
-use Rattle.runfile.specs.declared.slot.Answer.TheVariants.{Unmarked, Denied, Toll, Line}
 use Rattle.runfile.specs.declared.slot.Slot.{Slot}
 use Rattle.runfile.specs.declared.slot.Tag.{Tag}
 use Rattle.runfile.specs.declared.slot.Tag.TheVariants.{Read as tag_read, Write as tag_write}
@@ -25,17 +25,17 @@ pub record Values : Type 0 where
   pub toll : ℕ
   pub load : Load
 
--- an answer that is unmarked is 0 in all three
-abbrev pub values : Answer → Values
-values Unmarked = record { number = 0; toll = 0; load = no_load }
-values (Denied d) = record { number = denial_number d; toll = 0; load = no_load }
-values (Toll t) = record { number = 0; toll = t; load = no_load }
-values (Line l) = record { number = 0; toll = 0; load = l }
+-- where there is no answer yet, all three are 0
+abbrev pub values : Option (Answer Load) → Values
+values None = record { number = 0; toll = 0; load = no_load }
+values (Some (Err d)) = record { number = denial_number d; toll = 0; load = no_load }
+values (Some (Ok (Toll t))) = record { number = 0; toll = t; load = no_load }
+values (Some (Ok (Line l))) = record { number = 0; toll = 0; load = l }
 
 -- the slot of an ask that has not been carried out, at its place
 abbrev pub unmarked : ℕ → Ask → Slot
-unmarked p (read l) = record { tag = tag_read; line = l; place = p; answer = Unmarked }
-unmarked p (write l bs) = record { tag = tag_write; line = l; place = p; answer = Unmarked }
+unmarked p (read l) = record { tag = tag_read; line = l; place = p; answer = None }
+unmarked p (write l bs) = record { tag = tag_write; line = l; place = p; answer = None }
 
 abbrev pub slot_at : Placed → Slot
 slot_at x = unmarked x.place x.ask

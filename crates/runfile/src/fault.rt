@@ -1,10 +1,12 @@
 //! What is wrong with a run file, and where.
 
-ghost use Rattle.std.specs.Prelude.{◌≡◌};
+ghost use Rattle.std.specs.Prelude.{◌≡◌, Some};
 ghost use Rattle.line.specs.Denials.{number};
 ghost use Rattle.runfile.specs.Faults.{stage_letter};
+ghost use Rattle.runfile.specs.Texts.{fault_text, stage_text};
 
 use line::denial::Denial;
+use std::fmt;
 
 /// The part of a run at which a fault was found.
 #[derive(Clone, Copy)]
@@ -29,6 +31,20 @@ impl Stage {
             Stage::Settings => 'S',
             Stage::Request => 'Q',
             Stage::Pile { height: _ } => 'P',
+        }
+    }
+}
+
+/// A stage is shown as its letter; that of the pile is followed directly by the height.
+impl fmt::Display for Stage {
+    ghost output = { λ s. Some (stage_text s) };
+
+    fn fmt<W: fmt::Write>(&self, f: &mut fmt::Formatter<W>) -> fmt::Result {
+        match *self {
+            Stage::Trailer => write!(f, "T"),
+            Stage::Settings => write!(f, "S"),
+            Stage::Request => write!(f, "Q"),
+            Stage::Pile { height } => write!(f, "P{height}"),
         }
     }
 }
@@ -61,5 +77,17 @@ impl Fault {
         ensures number { result ≡ number self.denial }
     {
         self.denial.number()
+    }
+}
+
+/// A fault is shown as its number, place and stage.
+impl fmt::Display for Fault {
+    ghost output = { λ x. Some (fault_text x) };
+
+    fn fmt<W: fmt::Write>(&self, f: &mut fmt::Formatter<W>) -> fmt::Result {
+        let denial = self.denial;
+        let place = self.place;
+        let stage = self.stage;
+        write!(f, "file no {denial} at {place} stage {stage}")
     }
 }

@@ -1,16 +1,19 @@
 //! A slot: one request, with the answer to it.
 
-ghost use Rattle.std.specs.Prelude.{◌≡◌};
+ghost use Rattle.std.specs.Prelude.{◌≡◌, Some};
 ghost use Rattle.runfile.specs.Slots.{slot_of, tag_letter, values};
+ghost use Rattle.runfile.specs.Texts.{slot_text};
 
 use crate::request::Request;
-use line::denial::Denial;
-use line::load::{Activity, Load};
+use line::answer::{Accepted, Answer};
+use line::load::Load;
+use std::fmt;
 
 /// Which request a slot is for.
-#[derive(Clone, Copy)]
+#[derive(Clone, Copy, Default)]
 pub enum Tag {
     /// A read.
+    #[default]
     Read,
     /// A write.
     Write,
@@ -28,59 +31,8 @@ impl Tag {
     }
 }
 
-/// The answer to a request.
-#[derive(Clone, Copy)]
-pub enum Answer {
-    /// The request has not been carried out.
-    Unmarked,
-    /// The request was denied.
-    Denied(Denial),
-    /// A write was carried out, with this toll.
-    Toll(u64),
-    /// A read was carried out, and this is the line.
-    Line(Load),
-}
-
-impl Answer {
-    /// The number of the denial, and 0 where there is none.
-    pub fn number(self) -> u8
-        ensures number { result ≡ (values self).number }
-    {
-        match self {
-            Answer::Denied(denial) => denial.number(),
-            _ => 0,
-        }
-    }
-
-    /// The toll of a write that was carried out, and 0 for any other answer.
-    pub fn toll(self) -> u64
-        ensures toll { result ≡ (values self).toll }
-    {
-        match self {
-            Answer::Toll(toll) => toll,
-            _ => 0,
-        }
-    }
-
-    /// The line that was read, and a load of zeros for any other answer.
-    pub fn load(self) -> Load
-        ensures load { result ≡ (values self).load }
-    {
-        match self {
-            Answer::Line(load) => load,
-            _ => Load {
-                time: 0,
-                east: 0,
-                north: 0,
-                tonnes: 0,
-                activity: Activity::SAILING,
-            },
-        }
-    }
-}
-
 /// A request of a run file, and the answer to it.
-#[derive(Clone, Copy)]
+#[derive(Clone, Copy, Default)]
 pub struct Slot {
     /// Which request it is.
     pub tag: Tag,
@@ -88,8 +40,8 @@ pub struct Slot {
     pub line: u16,
     /// Its place in the file.
     pub place: u32,
-    /// The answer to it.
-    pub answer: Answer,
+    /// The answer to it; none where it has not been carried out.
+    pub answer: Option<Answer<Load>>,
 }
 
 impl Slot {
@@ -97,23 +49,62 @@ impl Slot {
     pub fn unmarked(request: Request) -> Slot
         ensures slot { result ≡ slot_of request.entry }
     {
-        match request {
-            Request::Read { line, place } => Slot {
-                tag: Tag::Read,
-                line,
-                place,
-                answer: Answer::Unmarked,
-            },
-            Request::Write {
-                line,
-                place,
-                bytes: _,
-            } => Slot {
-                tag: Tag::Write,
-                line,
-                place,
-                answer: Answer::Unmarked,
-            },
+        let (tag, line, place) = match request {
+            Request::Read { line, place } => (Tag::Read, line, place),
+            Request::Write { line, place, .. } => (Tag::Write, line, place),
+        };
+        Slot {
+            tag,
+            line,
+            place,
+            answer: None,
+        }
+    }
+
+    /// The number of the denial, and 0 where there is none.
+    pub fn number(self) -> u8
+        ensures number { result ≡ (values self.answer).number }
+    {
+        match self.answer {
+            Some(Err(denial)) => denial.number(),
+            _ => 0,
+        }
+    }
+
+    /// The toll of a write that was carried out, and 0 for any other answer.
+    pub fn toll(self) -> u64
+        ensures toll { result ≡ (values self.answer).toll }
+    {
+        match self.answer {
+            Some(Ok(Accepted::Toll(toll))) => toll,
+            _ => 0,
+        }
+    }
+
+    /// The line that was read, and a load of zeros for any other answer.
+    pub fn load(self) -> Load
+        ensures load { result ≡ (values self.answer).load }
+    {
+        match self.answer {
+            Some(Ok(Accepted::Line(load))) => load,
+            _ => Load::default(),
+        }
+    }
+}
+
+/// A slot is shown as the request's letter and line, and then the answer: ok with the toll or the load, or no with the denial's number.
+impl fmt::Display for Slot {
+    ghost output = { λ s. Some (slot_text s) };
+
+    fn fmt<W: fmt::Write>(&self, f: &mut fmt::Formatter<W>) -> fmt::Result {
+        let letter = self.tag.letter();
+        let line = self.line;
+        write!(f, "{letter} {line}")?;
+        match self.answer {
+            None => Ok(()),
+            Some(Err(denial)) => write!(f, " no {denial}"),
+            Some(Ok(Accepted::Toll(toll))) => write!(f, " ok {toll}"),
+            Some(Ok(Accepted::Line(load))) => write!(f, " ok {load}"),
         }
     }
 }
