@@ -1,7 +1,7 @@
 -- A file that says something is read without a fault, and what is read is what it says. The parts of the file fix its length,
 -- hence the places at which the reader looks; what stands there is what stands in the parts.
-use Rattle.std.proofs.Common.{◌≡◌, ℕ, ◌+◌, ◌-◌, ◌≤◌, true, ◌&&◌, eqb, ◌⊎◌, List, [], ◌∷◌, ◌++◌, length, get_or, drop, Some, None, Ok, Option, Result, sym, refl, ap, ◌∙◌, subst, ⊎_elim, append_assoc, arith, length-append}
-use Rattle.std.proofs.lemmas.List.{append-nil, drop_at, get_or-drop}
+use Rattle.std.proofs.Common.{◌≡◌, ℕ, ◌+◌, ◌-◌, ◌≤◌, true, ◌⊎◌, List, [], ◌∷◌, ◌++◌, length, get_or, drop, Some, None, Ok, Option, Result, sym, refl, ap, ◌∙◌, subst, ⊎_elim, append_assoc, arith, length-append}
+use Rattle.std.proofs.lemmas.List.{drop_at, drop-drop}
 use Rattle.line.specs.Words.{at32}
 use Rattle.runfile.specs.declared.fault.Fault.{Fault}
 use Rattle.reader.specs.declared.reader.Run.{Run}
@@ -9,11 +9,11 @@ use Rattle.runfile.specs.declared.settings.Settings.{Settings}
 use Rattle.runfile.specs.Asks.{Ask, Placed, asks}
 use Rattle.runfile.specs.Faults.{or_fault}
 use Rattle.reader.specs.Laws.{Exact, OneMeaning, placed, read_as, ask_size}
-use Rattle.runfile.specs.Layout.{settings_from, known_pile, mark, marked_at}
+use Rattle.runfile.specs.Layout.{settings_from, known_pile, mark}
 use Rattle.reader.specs.Reading.{Reading, reading, run_in, run_of, run_fault, settings_at, requests_of, requests_from, requests_fault}
 use Rattle.runfile.specs.RunFile.{PileLetter, Says}
-use Rattle.reader.proofs.Places.{Part, part_middle, part_at, byte_in, at32_in, settings_in}
-use Rattle.reader.proofs.Questions.{Passed, passed_none, none_passed}
+use Rattle.reader.proofs.Places.{Part, part_middle, part_end, at32_in, marked_from, settings_in}
+use Rattle.reader.proofs.Questions.{Passed, passed_none, none_passed, same_ok}
 use Rattle.reader.proofs.Soundness.{passed_says, passed_number}
 use Rattle.reader.proofs.Spelling.{spelled_found}
 
@@ -21,17 +21,6 @@ letter_known : (p : ℕ) → PileLetter p → known_pile p ≡ true
 letter_known p h =
     ⊎_elim (λ (e : p ≡ 65). ap known_pile e)
     (λ (b : (p ≡ 66) ⊎ (p ≡ 67)). ⊎_elim (λ (e : p ≡ 66). ap known_pile e) (λ (e : p ≡ 67). ap known_pile e) b) h
-
--- the letters of the mark, as they stand in the trailer
-mark_byte : (t : List ℕ) (i n : ℕ) → n ≡ 12 + i → drop 12 t ≡ mark → get_or t n 0 ≡ get_or mark i 0
-mark_byte t i n e h = ap (λ (k : ℕ). get_or t k 0) e ∙ sym (get_or-drop 12 t i 0) ∙ ap (λ (l : List ℕ). get_or l i 0) h
-
-mark_known : (f : List ℕ) (n : ℕ) → get_or f n 0 ≡ 82 → get_or f (n + 1) 0 ≡ 85 → get_or f (n + 2) 0 ≡ 78 → get_or f (n + 3) 0 ≡ 49 → marked_at f n ≡ true
-mark_known f n e0 e1 e2 e3 =
-    ap (λ (x : ℕ). eqb x 82 && (eqb (get_or f (n + 1) 0) 85 && (eqb (get_or f (n + 2) 0) 78 && eqb (get_or f (n + 3) 0) 49))) e0
-    ∙ ap (λ (x : ℕ). eqb x 85 && (eqb (get_or f (n + 2) 0) 78 && eqb (get_or f (n + 3) 0) 49)) e1
-    ∙ ap (λ (x : ℕ). eqb x 78 && eqb (get_or f (n + 3) 0) 49) e2
-    ∙ ap (λ (x : ℕ). eqb x 49) e3
 
 -- what the reader finds in a file that says s and qs, after a lead of this length
 record Finds (f : List ℕ) (s : Settings) (qs : List Ask) (lead slots : ℕ) : Type 0 where
@@ -57,8 +46,9 @@ finds f s qs slots x le =
     let len : length f ≡ length lead + 20 + length reqs + 16 = omega arith in
     let ld : length (lead ++ (sets ++ reqs)) ≡ length lead + length (sets ++ reqs) = length-append lead (sets ++ reqs) in
     let le2 : length (sets ++ reqs) ≡ length sets + length reqs = length-append sets reqs in
-    let regroup : f ≡ (lead ++ (sets ++ reqs)) ++ (tr ++ []) = w ∙ simp (append_assoc, append-nil) in
-    let pt : Part f (length f - 16) tr = part_at f tr (length (lead ++ (sets ++ reqs))) (length f - 16) (omega arith) (part_middle f (lead ++ (sets ++ reqs)) tr [] regroup) in
+    let dt : drop (length f - 16) f ≡ tr = ap (drop (length f - 16)) (w ∙ simp append_assoc) ∙ drop_at (lead ++ (sets ++ reqs)) tr (length f - 16) (omega arith) in
+    let pt : Part f (length f - 16) tr = subst (Part f (length f - 16)) dt (part_end f (length f - 16)) in
+    let dm : drop (length f - 4) f ≡ mark = ap (λ (k : ℕ). drop k f) (omega arith) ∙ sym (drop-drop 12 (length f - 16) f) ∙ ap (drop 12) dt ∙ x.marked in
     let ps : Part f (length lead) sets = part_middle f lead sets (reqs ++ tr) w in
     let t0 : at32 f (length f - 16) ≡ length reqs + 20 = at32_in f tr (length f - 16) (length f - 16) 0 pt (omega arith) (omega arith) ∙ x.to_settings in
     let t4 : at32 f (length f - 12) ≡ length reqs = at32_in f tr (length f - 16) (length f - 12) 4 pt (omega arith) (omega arith) ∙ x.to_requests in
@@ -66,10 +56,6 @@ finds f s qs slots x le =
     let place : settings_at f ≡ length lead = omega arith in
     let set : settings_from f (settings_at f) ≡ s = ap (settings_from f) place ∙ settings_in f sets (length lead) ps l20 ∙ sym x.settled in
     let pile : get_or f (settings_at f) 0 ≡ s.pile = ap (λ (z : Settings). z.pile) set in
-    let m0 : get_or f (length f - 4) 0 ≡ 82 = byte_in f tr (length f - 16) (length f - 4) 12 pt (omega arith) (omega arith) ∙ mark_byte tr 0 12 refl x.marked in
-    let m1 : get_or f (length f - 4 + 1) 0 ≡ 85 = byte_in f tr (length f - 16) (length f - 4 + 1) 13 pt (omega arith) (omega arith) ∙ mark_byte tr 1 13 refl x.marked in
-    let m2 : get_or f (length f - 4 + 2) 0 ≡ 78 = byte_in f tr (length f - 16) (length f - 4 + 2) 14 pt (omega arith) (omega arith) ∙ mark_byte tr 2 14 refl x.marked in
-    let m3 : get_or f (length f - 4 + 3) 0 ≡ 49 = byte_in f tr (length f - 16) (length f - 4 + 3) 15 pt (omega arith) (omega arith) ∙ mark_byte tr 3 15 refl x.marked in
     let dr : drop (length lead + 20) f ≡ reqs ++ tr =
     ap (drop (length lead + 20)) (w ∙ sym (append_assoc lead sets (reqs ++ tr))) ∙ drop_at (lead ++ sets) (reqs ++ tr) (length lead + 20) (length-append lead sets ∙ ap (λ (k : ℕ). length lead + k) l20) in
     let sf = spelled_found qs f reqs tr (length lead + 20) (length f - 16) x.spelled dr (omega arith) in
@@ -78,7 +64,7 @@ finds f s qs slots x le =
       passed = record {
         long = omega arith;
         short = x.short;
-        marked = mark_known f (length f - 4) m0 m1 m2 m3;
+        marked = marked_from f (length f - 4) dm;
         linked = t0 ∙ ap (λ (k : ℕ). k + 20) (sym t4);
         back = omega arith;
         known = ap known_pile pile ∙ letter_known s.pile x.letter;
@@ -92,9 +78,6 @@ finds f s qs slots x le =
       number = t8;
       requests = ap (λ (k : ℕ). requests_from f k (at32 f (length f - 8))) from ∙ ap (λ (k : ℕ). requests_from f (length lead + 20) k) t8 ∙ sf.1;
     }
-
-same_ok : (a b : Reading) → ◌≡◌ {A = Result Reading Fault} (Ok a) (Ok b) → a ≡ b
-same_ok a b h = cc
 
 some_none : (x : Fault) → ◌≡◌ {A = Option Fault} (Some x) None → ⊥
 some_none x h = let z : ◌≡◌ {A = ℕ} 0 1 = cc in omega arith

@@ -2,6 +2,7 @@
 mod First
 pub mod Questions
 pub mod Walk
+pub mod Checked
 mod Places
 mod Spelling
 mod Soundness

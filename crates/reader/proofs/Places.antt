@@ -1,9 +1,12 @@
 -- What stands at a place of a list that is put together from others is what stands in the part: a number, the letters of the
 -- mark and the settings are read byte by byte, and each byte of a part stands in the whole, the part's place further on.
-use Rattle.std.proofs.Common.{◌≡◌, ℕ, ◌+◌, ◌<◌, ◌≤◌, List, ◌++◌, length, get_or, drop, sym, refl, ap, ◌∙◌, arith}
+use Rattle.std.proofs.Common.{◌≡◌, ℕ, ◌+◌, ◌-◌, ◌<◌, ◌≤◌, true, eqb, List, ◌++◌, length, get_or, drop, sym, refl, ap, ◌∙◌, arith}
+use Rattle.std.specs.List.{ends_with}
+use Rattle.std.proofs.lemmas.Bool.Decides.{Decides-eqb}
+use Rattle.std.proofs.lemmas.Slice.Eq.{slice_eq-Decides}
 use Rattle.std.proofs.lemmas.List.{get_or-append-add, get_or_append_left, get_or-drop}
 use Rattle.line.specs.Words.{at16, at32}
-use Rattle.runfile.specs.Layout.{settings_from}
+use Rattle.runfile.specs.Layout.{mark, marked_at, settings_from}
 
 -- bs stands in f from n on
 abbrev pub Part : List ℕ → ℕ → List ℕ → Type 0
@@ -49,3 +52,17 @@ settings_in f bs n p l =
     let k2 = at16_in f bs n (n + 16) 16 p refl (omega arith) in
     let k3 = at16_in f bs n (n + 18) 18 p refl (omega arith) in
     cc
+
+-- the letters of the mark, as the end of a list
+pub marked_from : (f : List ℕ) (b : ℕ) → drop b f ≡ mark → marked_at f b ≡ true
+marked_from f b d =
+    let byte : (n i : ℕ) → n ≡ b + i → get_or f n 0 ≡ get_or mark i 0 =
+    λ n i e. ap (λ (k : ℕ). get_or f k 0) e ∙ sym (get_or-drop b f i 0) ∙ ap (λ (l : List ℕ). get_or l i 0) d in
+    let e0 = byte b 0 (omega arith) in
+    let e1 = byte (b + 1) 1 refl in
+    let e2 = byte (b + 2) 2 refl in
+    let e3 = byte (b + 3) 3 refl in
+    rw (e0, e1, e2, e3) refl
+
+pub ends_marked : (f : List ℕ) → true ≡ ends_with eqb f mark → marked_at f (length f - 4) ≡ true
+ends_marked f e = marked_from f (length f - 4) (sym ((slice_eq-Decides Decides-eqb mark (drop (length f - 4) f) true e).0 refl))

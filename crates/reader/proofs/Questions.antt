@@ -9,7 +9,7 @@ use Rattle.runfile.specs.declared.fault.Stage.{Stage}
 use Rattle.reader.specs.declared.reader.Run.{Run}
 use Rattle.runfile.specs.Faults.{faulted, or_then, or_fault}
 use Rattle.runfile.specs.Layout.{known_pile, marked_at}
-use Rattle.reader.specs.Reading.{reading, run_in, run_of, run_fault, settings_at, request_fault, requests_fault, requests_from, requests_of, size_at}
+use Rattle.reader.specs.Reading.{Reading, reading, run_in, run_of, run_fault, settings_at, request_fault, requests_fault, requests_from, requests_of, size_at}
 
 pub both_none : (o p : Option Fault) → o ≡ None → p ≡ None → or_then o p ≡ None
 both_none o p ho hp = ap (λ (x : Option Fault). or_then x p) ho ∙ hp
@@ -87,6 +87,9 @@ none_stands f at end h =
       letter = not-false _ (none_test _ _ _ _ b.0);
       within = ltb-false _ _ (none_test _ _ _ _ b.1);
     }
+
+pub same_ok : (a b : Reading) → ◌≡◌ {A = Result Reading Fault} (Ok a) (Ok b) → a ≡ b
+same_ok a b h = cc
 
 -- what an answer `Ok` tells of a file
 pub record Ready (f : List ℕ) (slots : ℕ) (run : Run) : Type 0 where

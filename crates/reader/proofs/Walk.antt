@@ -36,7 +36,7 @@ walk_broke f g at e end k m x ek eg ee h =
 pub walk_none : (f : List ℕ) (from at end k : ℕ) → at ≡ from → requests_fault f at end (k - 0) ≡ requests_fault f from end k
 walk_none f from at end k e = ap (λ (a : ℕ). requests_fault f a end (k - 0)) e ∙ ap (λ (n : ℕ). requests_fault f from end n) (sub-zero k)
 
-some_none : (x : Fault) → ◌≡◌ {A = Option Fault} (Some x) None → ⊥
+pub some_none : (x : Fault) → ◌≡◌ {A = Option Fault} (Some x) None → ⊥
 some_none x h = let z : ◌≡◌ {A = ℕ} 0 1 = cc in omega arith
 
 pub length_requests_from : (f : List ℕ) (at k : ℕ) → length (requests_from f at k) ≡ k

@@ -2,5 +2,7 @@
 
 #![tactic(auto)]
 
+mod bytes;
+mod faults;
 pub mod reader;
 pub mod requests;

@@ -1,16 +1,18 @@
 //! The reader of run files.
 
-ghost use Rattle.std.specs.Prelude.{◌≡◌, ◌+◌, ◌-◌, ◌≤◌, min, not, ◌++◌, map, length, drop, None, Ok, slice_index};
-ghost use Rattle.line.specs.Words.{at16, at32};
+ghost use Rattle.std.specs.Prelude.{◌≡◌, ◌+◌, ◌≤◌, min, not, ◌++◌, map, length, drop, slice_index};
 ghost use Rattle.line.specs.declared.denial.Denial.TheVariants.{UnknownPile};
 ghost use Rattle.runfile.specs.Faults.{faulted, or_fault};
+ghost use Rattle.reader.specs.Checked.{reading_in, requests_left};
 ghost use Rattle.reader.specs.Laws.{Exact, OneMeaning, ReadBack};
-ghost use Rattle.runfile.specs.Layout.{known_pile, marked_at, settings_from};
-ghost use Rattle.reader.specs.Reading.{reading, requests_fault, requests_from, run_in, run_of, settings_fault, slots_after, trailer_fault, trailer_of, walk_end};
+ghost use Rattle.runfile.specs.Layout.{known_pile, settings_from};
+ghost use Rattle.reader.specs.Reading.{reading, run_in, run_of, settings_fault, slots_after, trailer_fault, trailer_of, walk_end};
 ghost use Rattle.runfile.specs.Slots.{slot_at};
 ghost use Rattle.runfile.specs.declared.fault.Stage.TheVariants.{Settings as in_settings};
 
-use crate::requests::Requests;
+use crate::bytes::bytes_at;
+use crate::faults::at_trailer;
+use crate::requests::{CheckedRequests, Requests};
 use line::denial::Denial;
 use runfile::fault::{Fault, Stage};
 use runfile::lengths;
@@ -50,28 +52,17 @@ impl Run {
     }
 }
 
-// The number of 16 bits at a place.
-fn half(bytes: &[u8], at: usize) -> u16
-    requires length { at + 2 ≤ length bytes.now }
-    ensures value { result ≡ at16 bytes.now at }
+// The numbers of the trailer.
+fn trailer_of(file: &[u8]) -> Trailer
+    requires length { 16 ≤ length file.now }
+    ensures trailer { result ≡ trailer_of file.now }
 {
-    u16::from_le_bytes([bytes[at], bytes[at + 1]])
-}
-
-// The number of 32 bits at a place.
-fn word(bytes: &[u8], at: usize) -> u32
-    requires length { at + 4 ≤ length bytes.now }
-    ensures value { result ≡ at32 bytes.now at }
-{
-    u32::from_le_bytes([bytes[at], bytes[at + 1], bytes[at + 2], bytes[at + 3]])
-}
-
-// Whether the letters RUN1 stand at a place.
-fn has_mark(bytes: &[u8], at: usize) -> bool
-    requires length { at + 4 ≤ length bytes.now }
-    ensures value { result ≡ marked_at bytes.now at }
-{
-    bytes[at] == b'R' && bytes[at + 1] == b'U' && bytes[at + 2] == b'N' && bytes[at + 3] == b'1'
+    let start = file.len() - lengths::TRAILER;
+    Trailer {
+        settings: u32::from_le_bytes(bytes_at(file, start)),
+        requests: u32::from_le_bytes(bytes_at(file, start + 4)),
+        number: u32::from_le_bytes(bytes_at(file, start + 8)),
+    }
 }
 
 /// Reads the trailer. Denied with 8 at a length that is not from 36 to 65,536, with 9 where the letters RUN1 are missing,
@@ -80,23 +71,19 @@ pub fn read_trailer(file: &[u8]) -> Result<Trailer, Fault>
     ensures answer { result ≡ or_fault (trailer_fault file.now) (trailer_of file.now) }
 {
     let n = file.len();
-    if n < lengths::SHORTEST || n > lengths::LONGEST {
-        return Err(Fault::new(Denial::FileLength, 0, Stage::Trailer));
+    if !(lengths::SHORTEST..=lengths::LONGEST).contains(&n) {
+        return Err(at_trailer(Denial::FileLength, 0));
     }
-    if !has_mark(file, n - 4) {
-        return Err(Fault::new(Denial::NoMark, (n - 4) as u32, Stage::Trailer));
+    if !file.ends_with(b"RUN1") {
+        return Err(at_trailer(Denial::NoMark, n - 4));
     }
-    let settings = word(file, n - 16);
-    let requests = word(file, n - 12);
-    let number = word(file, n - 8);
-    if settings < 20 || settings - 20 != requests || settings > (n - 16) as u32 {
-        return Err(Fault::new(Denial::BadDistances, (n - 16) as u32, Stage::Trailer));
+    let trailer = trailer_of(file);
+    let start = n - lengths::TRAILER;
+    let distance = trailer.settings as usize;
+    if distance != trailer.requests as usize + lengths::SETTINGS || distance > start {
+        return Err(at_trailer(Denial::BadDistances, start));
     }
-    Ok(Trailer {
-        settings,
-        requests,
-        number,
-    })
+    Ok(trailer)
 }
 
 // The pile's letter, which stands at a place. Denied with 11 where it is not A, B or C.
@@ -104,9 +91,7 @@ fn read_pile(letter: u8, place: u32) -> Result<char, Fault>
     ensures answer { result ≡ or_fault (faulted (not (known_pile letter)) UnknownPile place in_settings) letter }
 {
     match letter as char {
-        'A' => Ok('A'),
-        'B' => Ok('B'),
-        'C' => Ok('C'),
+        pile @ ('A' | 'B' | 'C') => Ok(pile),
         _ => Err(Fault::new(Denial::UnknownPile, place, Stage::Settings)),
     }
 }
@@ -120,15 +105,15 @@ fn settings_from(file: &[u8], at: usize, pile: char) -> Settings
     Settings {
         pile,
         regions: file[at + 1],
-        interval: half(file, at + 2),
-        lines: half(file, at + 4),
+        interval: u16::from_le_bytes(bytes_at(file, at + 2)),
+        lines: u16::from_le_bytes(bytes_at(file, at + 4)),
         n: file[at + 6],
-        life: word(file, at + 8),
+        life: u32::from_le_bytes(bytes_at(file, at + 8)),
         keys: [
-            half(file, at + 12),
-            half(file, at + 14),
-            half(file, at + 16),
-            half(file, at + 18),
+            u16::from_le_bytes(bytes_at(file, at + 12)),
+            u16::from_le_bytes(bytes_at(file, at + 14)),
+            u16::from_le_bytes(bytes_at(file, at + 16)),
+            u16::from_le_bytes(bytes_at(file, at + 18)),
         ],
     }
 }
@@ -138,7 +123,7 @@ pub fn read_settings(file: &[u8]) -> Result<Run, Fault>
     ensures answer { result ≡ or_fault (settings_fault file.now) (run_of file.now) }
 {
     let trailer = read_trailer(file)?;
-    let place = (file.len() - 16) as u32 - trailer.settings;
+    let place = (file.len() - lengths::TRAILER) as u32 - trailer.settings;
     let at = place as usize;
     let pile = read_pile(file[at], place)?;
     Ok(Run {
@@ -148,55 +133,29 @@ pub fn read_settings(file: &[u8]) -> Result<Run, Fault>
     })
 }
 
-// Goes over the requests from a place on, and finds the first fault. Denied with 13, 14 and 15.
-fn check_requests(file: &[u8], from: usize, number: u32) -> Result<(), Fault>
-    requires length { (from + 16 ≤ length file.now) × (length file.now ≤ 65536) }
-    ensures answer { result ≡ or_fault (requests_fault file.now from (length file.now - 16) number) tt }
+// Fills a slot for each of the requests.
+fn fill_slots(mut requests: CheckedRequests<'_>, slots: &mut [Slot])
+    requires room { length (requests_left requests) ≤ length slots.old }
+    ensures slots { slots.new ≡ map slot_at (requests_left requests.entry) ++ drop (length (requests_left requests.entry)) slots.old }
 {
-    let mut requests = Requests::new(file, from);
-    for _ in 0..number {
-        requests.next()?;
+    for slot in slots.iter_mut() {
+        let Some(request) = requests.next() else {
+            return;
+        };
+        *slot = Slot::unmarked(request);
     }
-    if !requests.is_used_up() {
-        return Err(Fault::new(
-            Denial::RequestsMiscounted,
-            (file.len() - 8) as u32,
-            Stage::Trailer,
-        ));
-    }
-    Ok(())
-}
-
-// Fills a slot for each of the requests from a place on, which have been checked.
-fn fill_slots(file: &[u8], from: usize, slots: &mut [Slot], number: usize) -> Result<(), Fault>
-    requires length { (from + 16 ≤ length file.now) × (length file.now ≤ 65536) }
-    requires room { number ≤ length slots.old }
-    requires checked { requests_fault file.now from (length file.now - 16) number ≡ None }
-    ensures answer { result ≡ Ok tt }
-    ensures slots { slots.new ≡ map slot_at (requests_from file.now from number) ++ drop number slots.old }
-{
-    let mut requests = Requests::new(file, from);
-    for i in 0..number {
-        let request = requests.next()?;
-        slots[i] = Slot::unmarked(request);
-    }
-    Ok(())
 }
 
 // Asks every question of a file in turn, with this number of slots. Denied as `read_run` is.
-fn check_run(file: &[u8], slots: usize) -> Result<Run, Fault>
-    ensures answer { result ≡ run_in (reading file.now slots) }
+fn check_run<'a>(file: &'a [u8], slots: usize) -> Result<(Run, CheckedRequests<'a>), Fault>
+    ensures answer { reading_in result ≡ reading file.now slots }
 {
     let run = read_settings(file)?;
     if run.number as usize > slots {
-        return Err(Fault::new(
-            Denial::TooManyRequests,
-            (file.len() - 8) as u32,
-            Stage::Trailer,
-        ));
+        return Err(at_trailer(Denial::TooManyRequests, file.len() - 8));
     }
-    check_requests(file, run.place as usize + lengths::SETTINGS, run.number)?;
-    Ok(run)
+    let requests = run.requests(file).check(run.number)?;
+    Ok((run, requests))
 }
 
 /// Reads a run file, and fills a slot for each of its requests. Denied as `read_settings` is, with 12 where there are more
@@ -209,8 +168,21 @@ pub fn read_run(file: &[u8], slots: &mut [Slot]) -> Result<Run, Fault>
     ensures one { OneMeaning file.now }
     ensures back { ReadBack }
 {
-    let run = check_run(file, slots.len())?;
-    let from = run.place as usize + lengths::SETTINGS;
-    fill_slots(file, from, slots, run.number as usize)?;
-    Ok(run)
+    read_requests(file, slots).map(|(run, _)| run)
+}
+
+/// Reads a run file and fills the slots as `read_run` does, and hands out the requests too: the first slots are theirs, in order.
+pub fn read_requests<'a>(
+    file: &'a [u8],
+    slots: &mut [Slot],
+) -> Result<(Run, CheckedRequests<'a>), Fault>
+    ensures answer { reading_in result ≡ reading file.now (length slots.old) }
+    ensures slots { slots.new ≡ slots_after (reading file.now (length slots.old)) slots.old }
+    ensures exact { Exact file.now (length slots.old) (run_in (reading file.now (length slots.old))) }
+    ensures one { OneMeaning file.now }
+    ensures back { ReadBack }
+{
+    let (run, requests) = check_run(file, slots.len())?;
+    fill_slots(requests, slots);
+    Ok((run, requests))
 }

@@ -1,16 +1,20 @@
 //! The requests of a run file, handed out in turn.
 
-ghost use Rattle.std.specs.Prelude.{◌≡◌, ◌≤◌, min, length, ◌==◌};
+ghost use Rattle.std.specs.Prelude.{◌≡◌, ◌+◌, ◌≤◌, ◌<◌, min, length, take, drop, ◌==◌, None, MatchResult, Some};
 ghost use Rattle.runfile.specs.Asks.{Sixteen};
-ghost use Rattle.reader.specs.Reading.{Handed, walk_end};
+ghost use Rattle.line.specs.declared.denial.Denial.TheVariants.{RequestsMiscounted, RequestCutShort};
+ghost use Rattle.runfile.specs.declared.fault.Stage.TheVariants.{Trailer as in_trailer, Request as in_request};
+ghost use Rattle.reader.specs.Reading.{Handed, requests_fault, requests_from, walk_end};
 
+use crate::bytes::bytes_at;
+use crate::faults::at_trailer;
 use line::denial::Denial;
 use runfile::fault::{Fault, Stage};
 use runfile::lengths;
 use runfile::request::Request;
 
 /// The requests that are left of a file, up to its trailer.
-#[derive(Drop)]
+#[derive(Clone, Copy)]
 pub struct Requests<'a> {
     file: &'a [u8],
     at: usize,
@@ -19,6 +23,8 @@ pub struct Requests<'a> {
 }
 
 impl<'a> Requests<'a> {
+    ghost use Rattle.reader.specs.Checked.{requests_left};
+
     /// The requests of a run file from a place on. A file whose length is not from 16 to 65,536 has none.
     pub fn new(file: &'a [u8], from: usize) -> Requests<'a>
         ensures file { result.file.now ≡ file.now }
@@ -26,13 +32,16 @@ impl<'a> Requests<'a> {
         ensures at { result.at ≡ min from (walk_end file.now) }
     {
         let n = file.len();
-        let end = if n < lengths::TRAILER || n > lengths::LONGEST {
-            0
-        } else {
+        let end = if (lengths::TRAILER..=lengths::LONGEST).contains(&n) {
             n - lengths::TRAILER
+        } else {
+            0
         };
-        let at = if from < end { from } else { end };
-        Requests { file, at, end }
+        Requests {
+            file,
+            at: from.min(end),
+            end,
+        }
     }
 
     /// Hands out the next request. Denied with 15 where none is left, with 13 where the letter is not r or w, and with 14
@@ -43,34 +52,44 @@ impl<'a> Requests<'a> {
         ensures sixteen { Sixteen result }
         ensures handed { Handed self.old.file.now self.old.at self.old.end result self.new.at }
     {
+        if self.is_used_up() {
+            return Err(self.miscounted());
+        }
+        let place = self.at as u32;
+        match self.file[self.at] {
+            b'r' => {
+                let bytes = self.take(lengths::READ)?;
+                let line = u16::from_le_bytes(bytes_at(bytes, 1));
+                Ok(Request::Read { line, place })
+            }
+            b'w' => {
+                let bytes = self.take(lengths::WRITE)?;
+                let line = u16::from_le_bytes(bytes_at(bytes, 1));
+                Ok(Request::Write {
+                    line,
+                    place,
+                    bytes: &bytes[3..],
+                })
+            }
+            _ => Err(Fault::new(Denial::UnknownRequest, place, Stage::Request)),
+        }
+    }
+
+    // Takes the bytes of a request of that size. Denied with 14 where it does not end before the trailer.
+    fn take(&mut self, size: usize) -> Result<&'a [u8], Fault>
+        requires left { self.old.at < self.old.end }
+        ensures file { self.new.file.now ≡ self.old.file.now }
+        ensures end { self.new.end ≡ self.old.end }
+        ensures cases { MatchResult result
+            (λ bytes. (self.old.at + size ≤ self.old.end) × (bytes.now ≡ take size (drop self.old.at self.old.file.now)) × (length bytes.now ≡ size) × (self.new.at ≡ self.old.at + size))
+            (λ fault. (self.old.end < self.old.at + size) × (fault ≡ record { denial = RequestCutShort; place = self.old.at; stage = in_request }) × (self.new.at ≡ self.old.at)) }
+    {
         let at = self.at;
-        let place = at as u32;
-        if at == self.end {
-            return Err(Fault::new(
-                Denial::RequestsMiscounted,
-                (self.end + 8) as u32,
-                Stage::Trailer,
-            ));
-        }
-        let size = match self.file[at] {
-            b'r' => lengths::READ,
-            b'w' => lengths::WRITE,
-            _ => return Err(Fault::new(Denial::UnknownRequest, place, Stage::Request)),
-        };
         if self.end - at < size {
-            return Err(Fault::new(Denial::RequestCutShort, place, Stage::Request));
+            return Err(Fault::new(Denial::RequestCutShort, at as u32, Stage::Request));
         }
-        let line = u16::from_le_bytes([self.file[at + 1], self.file[at + 2]]);
         self.at = at + size;
-        if size == lengths::READ {
-            Ok(Request::Read { line, place })
-        } else {
-            Ok(Request::Write {
-                line,
-                place,
-                bytes: &self.file[at + 3..at + lengths::WRITE],
-            })
-        }
+        Ok(&self.file[at..at + size])
     }
 
     /// Whether no request is left.
@@ -78,5 +97,56 @@ impl<'a> Requests<'a> {
         ensures left { result ≡ (self.now.at == self.now.end) }
     {
         self.at == self.end
+    }
+
+    /// Goes over the requests that are left, of which there are to be this many. Denied with 15 where there are fewer or more, and
+    /// with 13 and 14 as `next` is, at the first request that is at fault.
+    pub fn check(self, number: u32) -> Result<CheckedRequests<'a>, Fault>
+        ensures cases { MatchResult result
+            (λ checked. (requests_fault self.entry.file.now self.entry.at self.entry.end number ≡ None) × (requests_left checked ≡ requests_from self.entry.file.now self.entry.at number))
+            (λ fault. requests_fault self.entry.file.now self.entry.at self.entry.end number ≡ Some fault) }
+    {
+        let mut requests = self;
+        for _ in 0..number {
+            requests.next()?;
+        }
+        if !requests.is_used_up() {
+            return Err(requests.miscounted());
+        }
+        Ok(CheckedRequests {
+            requests: self,
+            left: number,
+        })
+    }
+
+    // The fault of a trailer whose number is not that of the requests.
+    fn miscounted(&self) -> Fault
+        ensures fault { result ≡ record { denial = RequestsMiscounted; place = self.now.end + 8; stage = in_trailer } }
+    {
+        at_trailer(Denial::RequestsMiscounted, self.end + 8)
+    }
+}
+
+/// Requests that were checked: none of them is at fault, and there are as many as were counted.
+#[derive(Clone, Copy)]
+pub struct CheckedRequests<'a> {
+    requests: Requests<'a>,
+    left: u32,
+    ghost checked: { requests_fault requests.file.now requests.at requests.end left ≡ None },
+}
+
+impl<'a> Iterator for CheckedRequests<'a> {
+    ghost use Rattle.std.specs.Iterator.{item_count};
+    ghost use Rattle.reader.specs.Checked.{HandsOut, requests_left};
+
+    type Item = Request<'a>;
+
+    ghost next_gives = { HandsOut };
+
+    ghost remaining = { item_count requests_left };
+
+    fn next(&mut self) -> Option<Request<'a>> {
+        self.left = self.left.checked_sub(1)?;
+        self.requests.next().ok()
     }
 }
