@@ -1,17 +1,17 @@
 -- Lines that are printed one after another: the text of one slot more is appended to that of the slots before it.
-use Rattle.std.proofs.Common.{◌≡◌, ℕ, ◌+◌, ◌<◌, ◌≤◌, List, [], ◌∷◌, ◌++◌, length, get_or, take, codes, sym, refl, ap, ◌∙◌, append_assoc, append-nil}
+use Rattle.std.proofs.Common.{◌≡◌, ℕ, ◌+◌, ◌<◌, ◌≤◌, List, [], ◌∷◌, ◌++◌, length, get_or, take, None, codes, sym, refl, ap, ◌∙◌, append_assoc, append-nil}
 use Rattle.std.proofs.lemmas.List.{take_more, take_all}
 use Rattle.std.proofs.Output.{writes_in_calls_nil, has_written_append, has_written_of_eq}
 use Rattle.std.specs.Fmt.{IsPlainFormatter, HasWritten}
 use Rattle.std.specs.declared.fmt.Formatter.{Formatter}
 use Rattle.runfile.specs.declared.slot.Slot.{Slot}
-use Rattle.runfile.specs.declared.slot.Answer.TheVariants.{Unmarked}
 use Rattle.runfile.specs.declared.slot.Tag.TheVariants.{Read}
-use Rattle.listing.specs.Text.{slot_text, slots_text}
+use Rattle.runfile.specs.Texts.{slot_text}
+use Rattle.listing.specs.Listings.{slots_text}
 
 -- the element that stands for one past the end
 abbrev pub no_slot : Slot
-no_slot = record { tag = Read; line = 0; place = 0; answer = Unmarked }
+no_slot = record { tag = Read; line = 0; place = 0; answer = None }
 
 slots_text_append : (xs ys : List Slot) → slots_text (xs ++ ys) ≡ slots_text xs ++ slots_text ys
 slots_text_append [] ys = refl

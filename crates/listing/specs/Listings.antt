@@ -1,8 +1,15 @@
 -- The text of a whole listing. Assumes nothing.
-use Rattle.std.specs.Prelude.{ℕ, List, ◌++◌, codes}
+use Rattle.std.specs.Prelude.{ℕ, List, [], ◌∷◌, ◌++◌, codes}
 use Rattle.listing.specs.declared.listing.Listing.{Listing}
 use Rattle.listing.specs.declared.listing.Listing.TheVariants.{Faulty, Run}
-use Rattle.listing.specs.Text.{fault_text, slots_text, totals_text}
+use Rattle.runfile.specs.declared.slot.Slot.{Slot}
+use Rattle.runfile.specs.Texts.{fault_text, slot_text}
+use Rattle.runner.specs.Texts.{totals_text}
+
+-- one line for each slot
+abbrev pub slots_text : List Slot → List ℕ
+slots_text [] = []
+slots_text (s ∷ ss) = (slot_text s ++ codes "\n") ++ slots_text ss
 
 abbrev pub listing_text : Listing → List ℕ
 listing_text (Faulty fault) = fault_text fault ++ codes "\n"

@@ -1,7 +1,6 @@
-//! The listing: the text of faults, of answered slots and of a run's totals.
+//! The listing: the text of a fault, or of a run's slots and totals.
 
 #![tactic(auto)]
 
 pub mod listing;
 mod requests;
-pub mod text;

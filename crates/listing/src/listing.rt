@@ -4,7 +4,6 @@ ghost use Rattle.std.specs.Prelude.{Some};
 ghost use Rattle.listing.specs.Listings.{listing_text};
 
 use crate::requests::requests;
-use crate::text::{FaultText, TotalsText};
 use runfile::fault::Fault;
 use runfile::slot::Slot;
 use runner::totals::Totals;
@@ -22,15 +21,11 @@ impl<'a> fmt::Display for Listing<'a> {
 
     fn fmt<W: fmt::Write>(&self, f: &mut fmt::Formatter<W>) -> fmt::Result {
         match *self {
-            Listing::Faulty(fault) => {
-                let text = FaultText(fault);
-                writeln!(f, "{text}")
-            }
+            Listing::Faulty(fault) => writeln!(f, "{fault}"),
             Listing::Run { slots, totals } => {
                 writeln!(f, "no layer is fitted")?;
                 requests(slots, f)?;
-                let text = TotalsText(totals);
-                writeln!(f, "{text}")
+                writeln!(f, "{totals}")
             }
         }
     }

@@ -1,9 +1,8 @@
 //! The lines of the requests.
 
 ghost use Rattle.std.specs.Fmt.{WritesOnOk};
-ghost use Rattle.listing.specs.Text.{slots_text};
+ghost use Rattle.listing.specs.Listings.{slots_text};
 
-use crate::text::SlotText;
 use runfile::slot::Slot;
 use std::fmt;
 
@@ -12,8 +11,7 @@ pub(crate) fn requests<W: fmt::Write>(slots: &[Slot], f: &mut fmt::Formatter<W>)
     ensures { WritesOnOk W.Write.write_str_gives f.old result (slots_text slots.now) f.new }
 {
     for slot in slots {
-        let text = SlotText(*slot);
-        writeln!(f, "{text}")?;
+        writeln!(f, "{slot}")?;
     }
     Ok(())
 }

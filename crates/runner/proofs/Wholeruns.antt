@@ -9,15 +9,14 @@ use Rattle.medium.specs.declared.call.Call.{Call}
 use Rattle.media.specs.Bytes.{byte_survey}
 use Rattle.runfile.specs.declared.fault.Fault.{Fault}
 use Rattle.reader.specs.declared.reader.Run.{Run}
-use Rattle.runfile.specs.declared.slot.Answer.{Answer}
 use Rattle.runfile.specs.declared.slot.Slot.{Slot}
-use Rattle.reader.proofs.Walk.{length_requests_from}
 use Rattle.runfile.specs.Faults.{or_fault}
-use Rattle.reader.specs.Reading.{Reading, requests_from}
+use Rattle.reader.specs.Reading.{Reading}
+use Rattle.runfile.specs.Asks.{Placed}
 use Rattle.runfile.specs.Slots.{slot_at}
 use Rattle.runner.specs.OnBytes.{Memory, array_in, memory_after, byte_answer, byte_totals}
-use Rattle.runner.specs.Playing.{calls_of, unanswered, answered, answers_in}
-use Rattle.runner.specs.Runs.{room, at_height, medium_fault, surveyed, first_memory, first_array, last_memory, last_array, marked, marked_slots, totals_of, slots_left, bytes_left, counts_left, ArrayHeld}
+use Rattle.runner.specs.Playing.{calls_of, marked}
+use Rattle.runner.specs.Runs.{room, at_height, medium_fault, surveyed, first_memory, first_array, last_memory, last_array, marked_slots, totals_of, slots_left, bytes_left, counts_left, ArrayHeld}
 use Rattle.runner.specs.declared.totals.Totals.{Totals}
 
 -- ---- the survey
@@ -50,39 +49,19 @@ lent_fits run bs cs h =
           ∙ ap (λ (k : ℕ). byte_survey 16 n run.settings.life k) q ∙ s.2,
     )
 
--- ---- the slots
-slots_number : (f : List ℕ) (at n : ℕ) → length (map slot_at (requests_from f at n)) ≡ n
-slots_number f at n = simp length-map (length_requests_from f at n)
+-- ---- the slots of n requests
+module _ (qs : List Placed) (n : ℕ) (e : length qs ≡ n) (ss : List Slot) where
+  slots_number : length (map slot_at qs) ≡ n
+  slots_number = length-map qs slot_at ∙ e
 
-same_slot : (x y : Slot) → unanswered y ≡ unanswered x → y ≡ answered x y.answer
-same_slot x y e =
-    let t : y.tag ≡ x.tag = ap (λ (s : Slot). s.tag) e in
-    let l : y.line ≡ x.line = ap (λ (s : Slot). s.line) e in
-    let p : y.place ≡ x.place = ap (λ (s : Slot). s.place) e in
-    let same : answered y y.answer ≡ answered x y.answer = cc in
-    same
+  pub lent_slots : take (n - 0) (map slot_at qs ++ drop n ss) ≡ map slot_at qs
+  lent_slots = ap (λ (k : ℕ). take k (map slot_at qs ++ drop n ss)) (sub-zero n) ∙ take_at (map slot_at qs) (drop n ss) n slots_number
 
-marked_is : (xs ys : List Slot) → map unanswered ys ≡ map unanswered xs → ys ≡ marked xs (answers_in ys)
-marked_is [] [] e = refl
-marked_is [] (y ∷ ys) e = let z : ◌≡◌ {A = ℕ} 0 1 = cc in absurd (omega arith)
-marked_is (x ∷ xs) [] e = let z : ◌≡◌ {A = ℕ} 0 1 = cc in absurd (omega arith)
-marked_is (x ∷ xs) (y ∷ ys) e =
-    let h : unanswered y ≡ unanswered x = cc in
-    let t : map unanswered ys ≡ map unanswered xs = cc in
-    ap (λ (s : Slot). s ∷ ys) (same_slot x y h) ∙ ap (λ (l : List Slot). answered x y.answer ∷ l) (marked_is xs ys t)
+  pub kept_slots : drop (n - 0) (map slot_at qs ++ drop n ss) ≡ drop n ss
+  kept_slots = ap (λ (k : ℕ). drop k (map slot_at qs ++ drop n ss)) (sub-zero n) ∙ drop_at (map slot_at qs) (drop n ss) n slots_number
 
-pub lent_slots : (f : List ℕ) (at n : ℕ) (ss : List Slot) → take (n - 0) (map slot_at (requests_from f at n) ++ drop n ss) ≡ map slot_at (requests_from f at n)
-lent_slots f at n ss =
-    ap (λ (k : ℕ). take k (map slot_at (requests_from f at n) ++ drop n ss)) (sub-zero n)
-    ∙ take_at (map slot_at (requests_from f at n)) (drop n ss) n (slots_number f at n)
-
-pub kept_slots : (f : List ℕ) (at n : ℕ) (ss : List Slot) → drop (n - 0) (map slot_at (requests_from f at n) ++ drop n ss) ≡ drop n ss
-kept_slots f at n ss =
-    ap (λ (k : ℕ). drop k (map slot_at (requests_from f at n) ++ drop n ss)) (sub-zero n)
-    ∙ drop_at (map slot_at (requests_from f at n)) (drop n ss) n (slots_number f at n)
-
-pub lent_number : (f : List ℕ) (at n : ℕ) (ss : List Slot) → length (take (n - 0) (map slot_at (requests_from f at n) ++ drop n ss)) ≡ n
-lent_number f at n ss = ap length (lent_slots f at n ss) ∙ slots_number f at n
+  pub lent_number : length (take (n - 0) (map slot_at qs ++ drop n ss)) ≡ n
+  lent_number = ap length lent_slots ∙ slots_number
 
 -- ---- the whole, of what was read as x: m is the memory that was lent, and cs are the calls
 module _ (x : Reading) (bs : List ℕ) (m : Memory) (em : m ≡ first_memory x bs) (cs : List (Call Load)) (ec : cs ≡ calls_of x.requests) where
@@ -98,14 +77,13 @@ module _ (x : Reading) (bs : List ℕ) (m : Memory) (em : m ≡ first_memory x b
   pub whole_totals : (t : Totals) (n : ℕ) (r : Result Reading Fault) → n ≡ x.run.number → r ≡ Ok x → t ≡ byte_totals n (after (array_in m life) cs) → Ok t ≡ totals_of r bs
   whole_totals t n r en er et = ap {B = Result Totals Fault} Ok (et ∙ ap (byte_totals n) lent_array ∙ ap (λ (k : ℕ). byte_totals k (last_array x bs)) en) ∙ sym (ap (λ (z : Result Reading Fault). totals_of z bs) er)
 
-  pub whole_slots : (r read : Result Reading Fault) (ss xs ys zs : List Slot) → r ≡ Ok x → xs ≡ map slot_at x.requests → map unanswered ys ≡ map unanswered xs
-      → answers_in ys ≡ map byte_answer (replies (array_in m life) cs) → zs ≡ drop x.run.number ss → ys ++ zs ≡ slots_left r read bs ss
-  whole_slots r read ss xs ys zs er ex es ea ez =
-      let rs : answers_in ys ≡ map byte_answer (replies (first_array x bs) (calls_of x.requests)) =
-      ea ∙ ap (λ (z : Memory). map byte_answer (replies (array_in z life) cs)) em ∙ ap (λ (z : List (Call Load)). map byte_answer (replies (first_array x bs) z)) ec in
-      ap (λ (l : List Slot). l ++ zs) (marked_is xs ys es)
-      ∙ ap (λ (l : List Slot). marked l (answers_in ys) ++ zs) ex
-      ∙ ap (λ (l : List Answer). marked (map slot_at x.requests) l ++ zs) rs
+  pub whole_slots : (r read : Result Reading Fault) (ss xs ys zs : List Slot) → r ≡ Ok x → xs ≡ map slot_at x.requests
+      → ys ≡ marked xs (map byte_answer (replies (array_in m life) cs)) → zs ≡ drop x.run.number ss → ys ++ zs ≡ slots_left r read bs ss
+  whole_slots r read ss xs ys zs er ex ey ez =
+      ap (λ (l : List Slot). l ++ zs) ey
+      ∙ ap (λ (l : List Slot). marked l (map byte_answer (replies (array_in m life) cs)) ++ zs) ex
+      ∙ ap (λ (z : Memory). marked (map slot_at x.requests) (map byte_answer (replies (array_in z life) cs)) ++ zs) em
+      ∙ ap (λ (z : List (Call Load)). marked (map slot_at x.requests) (map byte_answer (replies (first_array x bs) z)) ++ zs) ec
       ∙ ap (λ (l : List Slot). marked_slots x bs ++ l) ez
       ∙ sym (ap (λ (z : Result Reading Fault). slots_left z read bs ss) er)
 

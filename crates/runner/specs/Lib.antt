@@ -1,3 +1,4 @@
 pub mod OnBytes
 pub mod Playing
 pub mod Runs
+pub mod Texts

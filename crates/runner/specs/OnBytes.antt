@@ -1,13 +1,13 @@
 -- A run on a byte medium of loads: what its memory then holds, and what is answered. Assumes nothing.
-use Rattle.std.specs.Prelude.{ℕ, ◌+◌, ◌-◌, ◌*◌, List, [], ◌∷◌, slice_index, slice_set}
+use Rattle.std.specs.Prelude.{ℕ, ◌+◌, ◌-◌, ◌*◌, List, [], ◌∷◌, Ok, Err, slice_index, slice_set}
+use Rattle.line.specs.Answers.{Answer}
 use Rattle.line.specs.Loads.{load_of, load_bytes}
+use Rattle.line.specs.declared.answer.Accepted.TheVariants.{Line, Toll}
 use Rattle.line.specs.declared.load.Load.{Load}
 use Rattle.medium.specs.Array.{Array, Reply, line, written, denied, denied_by, unless_denied}
 use Rattle.medium.specs.declared.call.Call.{Call}
 use Rattle.medium.specs.declared.call.Call.TheVariants.{Read, Write}
 use Rattle.media.specs.Bytes.{byte_array, laid}
-use Rattle.runfile.specs.declared.slot.Answer.{Answer}
-use Rattle.runfile.specs.declared.slot.Answer.TheVariants.{Denied, Toll, Line}
 use Rattle.runner.specs.declared.totals.Totals.{Totals}
 
 -- bytes, and the count of each line's writes
@@ -35,10 +35,10 @@ memory_after m life [] = m
 memory_after m life (c ∷ cs) = memory_after (memory_next m life c) life cs
 
 -- what a byte medium answers where the flat array replies so: every toll is 1
-abbrev pub byte_answer : Reply Load → Answer
-byte_answer (line l) = Line l
-byte_answer written = Toll 1
-byte_answer (denied d) = Denied d
+abbrev pub byte_answer : Reply Load → Answer Load
+byte_answer (line l) = Ok (Line l)
+byte_answer written = Ok (Toll 1)
+byte_answer (denied d) = Err d
 
 -- the totals of that many requests on a byte medium that then means that array: its wear is what it has taken, and nothing was copied
 abbrev pub byte_totals : ℕ → Array Load → Totals

@@ -7,13 +7,12 @@ use Rattle.media.specs.Bytes.{byte_survey}
 use Rattle.runfile.specs.declared.fault.Fault.{Fault}
 use Rattle.runfile.specs.declared.fault.Stage.TheVariants.{Pile}
 use Rattle.reader.specs.declared.reader.Run.{Run}
-use Rattle.runfile.specs.declared.slot.Answer.{Answer}
 use Rattle.runfile.specs.declared.slot.Slot.{Slot}
 use Rattle.runfile.specs.Faults.{or_fault}
 use Rattle.reader.specs.Reading.{Reading, slots_after}
 use Rattle.runfile.specs.Slots.{slot_at}
 use Rattle.runner.specs.OnBytes.{Memory, array_in, memory_after, byte_answer, byte_totals}
-use Rattle.runner.specs.Playing.{calls_of, answered}
+use Rattle.runner.specs.Playing.{calls_of, marked}
 use Rattle.runner.specs.declared.totals.Totals.{Totals}
 
 -- ---- the survey of the medium
@@ -48,12 +47,7 @@ last_memory x bs = memory_after (first_memory x bs) x.run.settings.life (calls_o
 abbrev pub last_array : Reading → List ℕ → Array Load
 last_array x bs = after (first_array x bs) (calls_of x.requests)
 
--- slots with their answers
-abbrev pub marked : List Slot → List Answer → List Slot
-marked [] rs = []
-marked (s ∷ ss) [] = s ∷ ss
-marked (s ∷ ss) (r ∷ rs) = answered s r ∷ marked ss rs
-
+-- the slots with their answers
 abbrev pub marked_slots : Reading → List ℕ → List Slot
 marked_slots x bs = marked (map slot_at x.requests) (map byte_answer (replies (first_array x bs) (calls_of x.requests)))
 

@@ -1,62 +1,60 @@
 //! Requests, carried out one after another on any medium of loads.
 
-ghost use Rattle.std.specs.Prelude.{◌≡◌, ℕ, ◌+◌, ◌-◌, ◌≤◌, List, map, length, None};
-ghost use Rattle.runfile.specs.Asks.{placed_of};
-ghost use Rattle.reader.specs.Reading.{requests_fault, requests_from};
-ghost use Rattle.runner.specs.Playing.{call_of, calls_of, Whole, Step, Played, unanswered, answers_in};
+ghost use Rattle.std.specs.Prelude.{◌≡◌, [], ◌∷◌, length, Ok};
+ghost use Rattle.medium.specs.Chain.{InTurn};
+ghost use Rattle.reader.specs.Checked.{requests_left};
+ghost use Rattle.runfile.specs.Asks.{Sixteen, placed_of};
+ghost use Rattle.runner.specs.Playing.{call_of, calls_of, Played};
 
+use line::answer::Answer;
 use line::kind::LineKind;
 use line::load::Load;
+use medium::ask::ask;
+use medium::call::Call;
 use medium::medium::Medium;
-use reader::requests::Requests;
+use reader::requests::CheckedRequests;
 use runfile::request::Request;
-use runfile::slot::{Answer, Slot};
+use runfile::slot::Slot;
 
-// The answer of a medium to one request.
-fn answer<M: Medium<Line = Load>>(medium: &mut M, request: Request<'_>) -> Answer
-    requires { Whole request }
-    ensures step { Step M.Medium medium.old (call_of (placed_of request.entry).ask) result medium.new }
-    ensures memory { M.Medium.memory medium.new ≡ M.Medium.memory medium.old }
+// What a request asks of a medium of loads.
+fn call_of(request: Request<'_>) -> Call<Load>
+    requires sixteen { Sixteen (Ok request) }
+    ensures call { result ≡ call_of (placed_of request.entry).ask }
 {
     match request {
-        Request::Read { line, place: _ } => match (*medium).read(line) {
-            Ok(load) => Answer::Line(load),
-            Err(denial) => Answer::Denied(denial),
-        },
-        Request::Write {
-            line,
-            place: _,
-            bytes,
-        } => {
+        Request::Read { line, .. } => Call::Read(line),
+        Request::Write { line, bytes, .. } => {
             let Ok(load) = Load::read_from(bytes) else {
                 unreachable();
             };
-            match (*medium).write(line, load) {
-                Ok(toll) => Answer::Toll(toll),
-                Err(denial) => Answer::Denied(denial),
-            }
+            Call::Write(line, load)
         }
     }
 }
 
-// Carries out the requests of a file from a place on, which have been checked, and marks each one's slot with its answer.
+// The answer of a medium to one request.
+fn answer<M: Medium<Line = Load>>(medium: &mut M, request: Request<'_>) -> Answer<Load>
+    requires sixteen { Sixteen (Ok request) }
+    ensures memory { M.Medium.memory medium.new ≡ M.Medium.memory medium.old }
+    ensures turn { InTurn M.Medium medium.old (call_of (placed_of request.entry).ask ∷ []) (result ∷ []) medium.new }
+{
+    ask(medium, call_of(request))
+}
+
+// Carries out checked requests, and marks each one's slot with its answer.
 pub(crate) fn carry_out<M: Medium<Line = Load>>(
     medium: &mut M,
-    file: &[u8],
-    from: usize,
+    mut requests: CheckedRequests<'_>,
     slots: &mut [Slot],
 )
-    requires length { (from + 16 ≤ length file.now) × (length file.now ≤ 65536) }
-    requires checked { requests_fault file.now from (length file.now - 16) (length slots.old) ≡ None }
+    requires one_each { length (requests_left requests) ≡ length slots.old }
     ensures memory { M.Medium.memory medium.new ≡ M.Medium.memory medium.old }
-    ensures same { map unanswered slots.new ≡ map unanswered slots.old }
-    ensures played { Played M.Medium medium.old (calls_of (requests_from file.now from (length slots.old))) (answers_in slots.new) medium.new }
+    ensures played { Played M.Medium medium.old (calls_of (requests_left requests.entry)) slots.old slots.new medium.new }
 {
-    let mut requests = Requests::new(file, from);
-    for i in 0..slots.len() {
-        let Ok(request) = requests.next() else {
+    for slot in slots.iter_mut() {
+        let Some(request) = requests.next() else {
             unreachable();
         };
-        slots[i].answer = answer(medium, request);
+        slot.answer = Some(answer(medium, request));
     }
 }

@@ -9,7 +9,7 @@ use crate::on_bytes::on_bytes;
 use crate::totals::Totals;
 use line::load::Load;
 use media::bytes::survey;
-use reader::reader::{Run, read_run};
+use reader::reader::{Run, read_requests};
 use runfile::fault::{Fault, Stage};
 use runfile::slot::Slot;
 
@@ -23,10 +23,8 @@ fn survey_medium(run: &Run, bytes: usize, counts: usize) -> Result<(), Fault>
     } else {
         0
     };
-    match survey::<Load>(lines, run.settings.life as u64, room) {
-        Ok(()) => Ok(()),
-        Err(denial) => Err(Fault::new(denial, run.place, Stage::Pile { height: 0 })),
-    }
+    survey::<Load>(lines, run.settings.life as u64, room)
+        .map_err(|denial| Fault::new(denial, run.place, Stage::Pile { height: 0 }))
 }
 
 /// Carries out a run file's requests on a byte medium of loads, which lies in the front of the lent bytes and counts, and marks each
@@ -47,17 +45,15 @@ pub fn run_on_bytes(
     ensures bound { IfOk result (λ t. t.requests ≤ length slots.old) }
     ensures array { ArrayHeld (surveyed (reading file.now (length slots.old)) (length bytes.old) (length counts.old)) bytes.old }
 {
-    let run = read_run(file, slots)?;
+    let (run, requests) = read_requests(file, slots)?;
     survey_medium(&run, bytes.len(), counts.len())?;
     let lines = run.settings.lines as usize;
-    let from = run.place as usize + 20;
     let number = run.number as usize;
     let totals = on_bytes(
         &mut bytes[0..lines * 16],
         &mut counts[0..lines],
         run.settings.life,
-        file,
-        from,
+        requests,
         &mut slots[0..number],
     );
     Ok(totals)

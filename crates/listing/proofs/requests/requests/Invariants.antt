@@ -1,6 +1,6 @@
 use Rattle.std.proofs.Common.{take}
 use Rattle.std.specs.Fmt.{IsPlainFormatter, HasWritten}
-use Rattle.listing.specs.Text.{slots_text}
+use Rattle.listing.specs.Listings.{slots_text}
 use Rattle.listing.proofs.requests.requests.Given as goal
 
 abbrev pub invariant-loop-slot : goal.invariant-loop-slot

@@ -1,9 +1,9 @@
 use Rattle.std.proofs.Common.{◌≡◌, [], ◌∷◌, length, replicate, refl, ap, ◌∙◌, arith, rules}
 use Rattle.line.specs.declared.load.Load.{Load}
 use Rattle.media.specs.declared.bytes.ByteMedium.{ByteMedium}
-use Rattle.reader.specs.Reading.{requests_from}
+use Rattle.reader.specs.Checked.{requests_left}
 use Rattle.runner.specs.OnBytes.{Memory, array_in, byte_totals}
-use Rattle.runner.specs.Playing.{calls_of}
+use Rattle.runner.specs.Playing.{calls_of, marked}
 use Rattle.runner.proofs.Bytewise.{bytes_run, totals_are, same_memory}
 use Rattle.runner.proofs.on_bytes.on_bytes.Goals as goal
 
@@ -29,12 +29,12 @@ returns c =
     let names = c.carry_out.ensures.memory in
     let n1 : c.carry_out.new.medium.bytes.ghost_name ≡ c.new-medium.result.bytes.ghost_name = first_same _ _ _ _ names in
     let n2 : c.carry_out.new.medium.counts.ghost_name ≡ c.new-medium.result.counts.ghost_name = second_same _ _ _ _ names in
+    let played = c.carry_out.ensures.played in
     let ran = bytes_run _ held (λ m. m.life) (λ m. refl) (λ m. refl) (λ m i v n. ((λ t e. same_memory _ _ _ _ e.0 e.1), (λ d e. same_memory _ _ _ _ e.0 e.1)))
-    c.new-medium.result (calls_of (requests_from c.args.file.now c.args.from (length c.args.slots.now))) _ c.carry_out.new.medium m₀ c.args.life
-    (same_memory _ _ _ _ f0 f1) f2 c.carry_out.ensures.played in
+    c.new-medium.result (calls_of (requests_left c.args.requests)) _ c.carry_out.new.medium m₀ c.args.life
+    (same_memory _ _ _ _ f0 f1) f2 played.1.1 in
     record {
-      same = c.carry_out.ensures.same;
-      answers = ran.0;
+      slots = played.1.0 ∙ ap (marked c.args.slots.now) ran.0;
       memory = same_memory _ _ _ _ (search rules) (search rules) ∙ ran.1;
       array = ran.3;
       totals = totals_are (array_in (held c.carry_out.new.medium) c.carry_out.new.medium.life) (length c.args.slots.now) _ _ _ _ _ c.carry_out.auto.slots c.taken.ensures.answer c.life.ensures.answer c.taken-2.ensures.answer c.wear.ensures.answer (omega arith) ∙ ap (byte_totals (length c.args.slots.now)) ran.2;
