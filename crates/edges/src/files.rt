@@ -1,32 +1,18 @@
 //! Run files of every fault, and the legal ones beside them.
 
-use listing::text::{FaultText, TotalsText};
-use runfile::slot::{Answer, Slot, Tag};
+use runfile::slot::Slot;
 use runner::run::run_on_bytes;
 use std::alloc::{AllocError, Global};
-
-const EMPTY: Slot = Slot {
-    tag: Tag::Read,
-    line: 0,
-    place: 0,
-    answer: Answer::Unmarked,
-};
 
 // Carries a file out with 2,048 slots, and prints its fault or its totals.
 fn show(rt: &HostRuntime, name: &str, file: &[u8]) -> anyhow::Result<()> {
     let heap = rt.alloc();
-    let mut slots = vec![in heap; EMPTY; 2048]?;
+    let mut slots = vec![in heap; Slot::default(); 2048]?;
     let mut bytes = vec![in heap; 0u8; 65536]?;
     let mut counts = vec![in heap; 0u32; 4096]?;
     match run_on_bytes(file, &mut slots, &mut bytes, &mut counts) {
-        Ok(totals) => {
-            let text = TotalsText(totals);
-            println!(rt; "{name}: {text}")?;
-        }
-        Err(fault) => {
-            let text = FaultText(fault);
-            println!(rt; "{name}: {text}")?;
-        }
+        Ok(totals) => println!(rt; "{name}: {totals}")?,
+        Err(fault) => println!(rt; "{name}: {fault}")?,
     }
     Ok(())
 }

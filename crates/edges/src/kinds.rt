@@ -1,6 +1,6 @@
 //! The word and the load as bytes, and buffers of another length.
 
-use line::denial::Denial;
+use crate::number::number;
 use line::kind::LineKind;
 use line::load::{Activity, Load};
 
@@ -12,21 +12,14 @@ const LOAD: Load = Load {
     activity: Activity::DUMPING,
 };
 
-fn number(answer: Result<(), Denial>) -> u8 {
-    match answer {
-        Ok(()) => 0,
-        Err(denial) => denial.number(),
-    }
-}
-
 pub fn kinds(rt: &HostRuntime) -> anyhow::Result<()> {
     let mut buf = [9u8; 17];
-    let short = number(LOAD.write_to(&mut buf[0..15]));
-    let long = number(LOAD.write_to(&mut buf));
+    let short = number(&LOAD.write_to(&mut buf[0..15]));
+    let long = number(&LOAD.write_to(&mut buf));
     println!(rt; "load into 15: {short}, into 17: {long}, then {buf:?}")?;
-    let fits = number(LOAD.write_to(&mut buf[0..16]));
+    let fits = number(&LOAD.write_to(&mut buf[0..16]));
     println!(rt; "load into 16: {fits}, then {buf:?}")?;
-    let word = number(258u64.write_to(&mut buf[0..8]));
+    let word = number(&258u64.write_to(&mut buf[0..8]));
     println!(rt; "word into 8: {word}, then {buf:?}")?;
     reads(rt)
 }
@@ -36,21 +29,8 @@ fn reads(rt: &HostRuntime) -> anyhow::Result<()> {
     let mut buf = [255u8; 17];
     for n in [15, 16, 17] {
         match Load::read_from(&buf[0..n]) {
-            Ok(load) => {
-                let Load {
-                    time,
-                    east,
-                    north,
-                    tonnes,
-                    activity,
-                } = load;
-                let activity = activity.0;
-                println!(rt; "load from {n}: {time} {east} {north} {tonnes} {activity}")?;
-            }
-            Err(denial) => {
-                let no = denial.number();
-                println!(rt; "load from {n}: no {no}")?;
-            }
+            Ok(load) => println!(rt; "load from {n}: {load}")?,
+            Err(denial) => println!(rt; "load from {n}: no {denial}")?,
         }
     }
     buf[15] = 0;

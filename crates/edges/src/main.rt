@@ -4,6 +4,7 @@
 
 mod files;
 mod kinds;
+mod number;
 mod two_media;
 
 fn main(rt: HostRuntime) -> anyhow::Result<()> {

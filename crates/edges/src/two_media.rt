@@ -1,18 +1,11 @@
 //! The surveys of the two media, and writes until the life is used.
 
-use line::denial::Denial;
+use crate::number::number;
 use line::load::Load;
 use media::bytes::ByteMedium;
 use media::cells::CellMedium;
 use media::{bytes, cells};
 use medium::medium::Medium;
-
-fn number<T: Drop>(answer: &Result<T, Denial>) -> u8 {
-    match answer {
-        Ok(_) => 0,
-        Err(denial) => denial.number(),
-    }
-}
 
 pub fn surveys(rt: &HostRuntime) -> anyhow::Result<()> {
     for (count, life) in [
@@ -51,10 +44,7 @@ fn exercise<M: Medium<Line = u64>>(
     for line in 0..3 {
         match (*medium).read(line) {
             Ok(value) => println!(rt; "{name} read {line}: {value}")?,
-            Err(denial) => {
-                let no = denial.number();
-                println!(rt; "{name} read {line}: no {no}")?;
-            }
+            Err(denial) => println!(rt; "{name} read {line}: no {denial}")?,
         }
     }
     let count = (*medium).count();

@@ -2,10 +2,13 @@
 
 #![tactic(auto)]
 
+ghost use Rattle.std.specs.Prelude.{◌<◌};
+
 use gap::layer::GapLayer;
-use line::load::{Activity, Load};
 use media::bytes::ByteMedium;
-use medium::call::{Answer, Call};
+use line::answer::{Accepted, Answer};
+use line::load::{Activity, Load};
+use medium::call::Call;
 use medium::medium::Medium;
 use refresher::layer::RefreshLayer;
 use scatter::layer::ScatterLayer;
@@ -23,16 +26,17 @@ fn load(time: u32) -> Load {
     }
 }
 
-// Eleven writes to `lines` lines in turn, five reads from the first on, one of them past the last, and nothing more.
-fn many(lines: u16) -> [Call<Load>; 16] {
+// Eleven writes to `lines` lines in turn, and then five reads from the first line on, one of them past the last.
+fn many(lines: u16) -> [Call<Load>; 16]
+    requires { 0 < lines }
+{
     let mut calls = [Call::Read(0); 16];
-    if lines > 0 {
-        for i in 0..11u16 {
-            calls[i as usize] = Call::Write(i % lines, load(i as u32));
-        }
-        for i in 11..16u16 {
-            calls[i as usize] = Call::Read((i - 11).wrapping_mul(lines / 4));
-        }
+    for (i, call) in (0..16u16).zip(calls.iter_mut()) {
+        *call = if i < 11 {
+            Call::Write(i % lines, load(u32::from(i)))
+        } else {
+            Call::Read((i - 11).wrapping_mul(lines / 4))
+        };
     }
     calls
 }
@@ -43,26 +47,13 @@ fn drive<M: Medium<Line = Load>>(
     pile: &mut M,
     calls: &[Call<Load>],
 ) -> anyhow::Result<()> {
-    let mut answers = [Answer::Toll(0); 16];
+    let mut answers: [Answer<Load>; 16] = [Ok(Accepted::Toll(0)); 16];
     let n = carry_out(pile, calls, &mut answers);
     for answer in answers.iter().take(n) {
         match answer {
-            Answer::Line(load) => {
-                let Load {
-                    time,
-                    east,
-                    north,
-                    tonnes,
-                    activity,
-                } = *load;
-                let activity = activity.0;
-                println!(rt; "line {time} {east} {north} {tonnes} {activity}")?;
-            }
-            Answer::Toll(toll) => println!(rt; "toll {toll}")?,
-            Answer::Denied(denial) => {
-                let number = denial.number();
-                println!(rt; "no {number}")?;
-            }
+            Ok(Accepted::Line(load)) => println!(rt; "line {load}")?,
+            Ok(Accepted::Toll(toll)) => println!(rt; "toll {toll}")?,
+            Err(denial) => println!(rt; "no {denial}")?,
         }
     }
     let taken = (*pile).taken();

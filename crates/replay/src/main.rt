@@ -2,12 +2,10 @@
 
 #![tactic(auto)]
 
-ghost use Rattle.std.specs.Prelude.{◌≤◌, length, IfOk};
-
 use listing::listing::Listing;
+use runfile::lengths;
 use runfile::slot::Slot;
 use runner::run::run_on_bytes;
-use std::io;
 use std::io::Read;
 
 // The most requests that a run may have.
@@ -16,13 +14,13 @@ const SLOTS: usize = 2048;
 const LINES: usize = 4096;
 
 const WIDTH: usize = 16;
-// One byte more than the longest run file: a file that fills it is too long, however much more there is.
-const BUFFER: usize = 65537;
+// One byte more than the longest run file has: a file that has it is too long, however much more there is.
+const MOST: u64 = lengths::LONGEST as u64 + 1;
 
 fn replay(rt: &HostRuntime) -> anyhow::Result<()> {
     let heap = rt.alloc();
     let mut file = Vec::new(heap);
-    rt.stdin().take(LONGEST).read_to_end(&mut file)?;
+    rt.stdin().take(MOST).read_to_end(&mut file)?;
     let mut slots = vec![in heap; Slot::default(); SLOTS]?;
     let mut bytes = vec![in heap; 0u8; LINES * WIDTH]?;
     let mut counts = vec![in heap; 0u32; LINES]?;
