@@ -5,4 +5,4 @@ use Rattle.shuffle.proofs.feistel.round_of.Goals as goal
 
 pub overflow_mul-result : goal.overflow_mul-result
 overflow_mul-result c =
-    omega (arith, mixed_fits c.args.n c.args.half c.args.key c.half_size-size.result c.half_size-size.ensures.value c.requires.few c.requires.within)
+    omega (arith, mixed_fits c.args.width.bits c.args.half c.args.key c.size-size.result c.size-size.ensures c.args.width.few c.requires)

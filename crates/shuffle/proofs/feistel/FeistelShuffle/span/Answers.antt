@@ -3,4 +3,4 @@ use Rattle.shuffle.specs.Powers.{four_shl}
 use Rattle.shuffle.proofs.feistel.FeistelShuffle.span.Goals as goal
 
 pub returns : goal.returns
-returns c = record { answer = four_shl c.args.self.now.half_width c.args.self.now.few }
+returns c = record { answer = four_shl c.args.self.now.half_width.bits c.args.self.now.half_width.few }
