@@ -95,11 +95,10 @@ impl<S: Shuffle, M: Medium> ScatterLayer<S, M> {
     fn size(&self) -> u16
         ensures { result ≡ scatter_size self.now.life (S.Shuffle.span self.now.shuffle) }
     {
-        if self.life >= 1 {
-            self.shuffle.span()
-        } else {
-            0
+        if self.life == 0 {
+            return 0;
         }
+        self.shuffle.span()
     }
 }
 
@@ -125,6 +124,7 @@ impl<S: Shuffle, M: Medium> Medium for ScatterLayer<S, M> {
         if size <= self.below.count() { size } else { 0 }
     }
 
+    #[tactic(auto, using(medium::proofs::Layers::paid_yes, medium::proofs::Layers::paid_no))]
     fn life(&self) -> u32 {
         let left = left_of(&self.below);
         if self.life - self.taken <= left {
@@ -134,6 +134,7 @@ impl<S: Shuffle, M: Medium> Medium for ScatterLayer<S, M> {
         }
     }
 
+    #[tactic(auto, using(medium::proofs::Layers::paid_least))]
     fn taken(&self) -> u32 {
         self.taken
     }

@@ -52,6 +52,7 @@ impl Shuffle for Feistel {
 
     ghost back_rest = { λ s. (feistel_undoes s.half_width.bits s.keys).back_rest };
 
+    #[tactic(auto, using(crate::specs::Powers::four_shl))]
     fn span(&self) -> u16 {
         1 << (2 * self.half_width.bits)
     }
@@ -95,6 +96,7 @@ impl Split {
     ghost use Rattle.shuffle.specs.Split.{halves_of, stage_of, unstage_of};
 
     // A number of twice the width, in its halves.
+    #[tactic(auto, using(crate::specs::Networks::halves_within))]
     fn new(width: Width<6>, number: u16) -> Split
         requires { number < network_span width.bits }
         ensures width { result.width ≡ width }
@@ -141,6 +143,7 @@ impl Split {
 }
 
 // The round function of a key, at a half.
+#[tactic(auto, using(crate::specs::Rounds::mixed_fits))]
 fn round_of(width: Width<6>, key: u16, half: u16) -> u16
     requires { half < 2 ^ width.bits }
     ensures value { result ≡ round width.bits key half }
