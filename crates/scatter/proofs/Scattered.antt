@@ -5,6 +5,7 @@ use Rattle.line.specs.declared.denial.Denial.{Denial}
 use Rattle.std.proofs.Common.{⊎_elim}
 use Rattle.std.proofs.lemmas.Bool.{cond-true, cond-false, cases_lt, le-leb, lt-leb}
 use Rattle.std.proofs.lemmas.List.{length-set, get_or-set_same, get_or-set_other}
+use Rattle.shuffle.specs.Permutations.{Undoes}
 use Rattle.medium.specs.Array.{Array, denied_by, accepted, fetched, Wrote}
 use Rattle.medium.specs.Pile.{Pile, over, scatter, Served, paid_life}
 use Rattle.medium.specs.declared.call.Call.TheVariants.{Read, Write}
@@ -25,10 +26,10 @@ size_least life span x h = ⊎_elim
     (λ (k : 1 ≤ life). let e = size_fit life span k in (k, omega arith))
     (cases_lt life 1)
 
-pub stays_below : (life span : ℕ) (f : ℕ → ℕ) → ((x : ℕ) → x < span → f x < span) → (x : ℕ) → x < scatter_size life span → f x < scatter_size life span
-stays_below life span f stays x h =
+pub stays_below : (life span : ℕ) (f g : ℕ → ℕ) → Undoes span f g → (x : ℕ) → x < scatter_size life span → f x < scatter_size life span
+stays_below life span f g u x h =
     let k = size_least life span x h in
-    let l = stays x k.1 in
+    let l = u.stays x k.1 in
     rw (size_fit life span k.0) l
 
 abbrev array : {A : Type 0} → List A → ℕ → ℕ → Array A
@@ -38,12 +39,12 @@ apart : (n : ℕ) (f g : ℕ → ℕ) (undone : (x : ℕ) → x < n → g (f x) 
 apart n f g undone i j hi hj ne e = ne (sym (undone j hj) ∙ ap g e ∙ undone i hi)
 
 -- what a scatter of that life asks and answers, whose shuffle has a span, a forward f and a back g
-module _ (life span : ℕ) (f g : ℕ → ℕ) (stays_in : (x : ℕ) → x < span → f x < span) (undone_in : (x : ℕ) → x < span → g (f x) ≡ x) where
+module _ (life span : ℕ) (f g : ℕ → ℕ) (undoes : Undoes span f g) where
   stays : (x : ℕ) → x < scatter_size life span → f x < scatter_size life span
-  stays = stays_below life span f stays_in
+  stays = stays_below life span f g undoes
 
   undone : (x : ℕ) → x < scatter_size life span → g (f x) ≡ x
-  undone x h = undone_in x (size_least life span x h).1
+  undone x h = undoes.undone x (size_least life span x h).1
 
   module _ {A : Type 0} where
     below_place : (ls : List A) (i : ℕ) → i < length (scatter_lines life span f ls) → f i < length ls
@@ -96,7 +97,7 @@ module _ (life span : ℕ) (f g : ℕ → ℕ) (stays_in : (x : ℕ) → x < spa
 
 -- ---- the making
 -- a scatter whose survey answered r, and whose life is what is left below or, where r is a no, 0
-module _ {A : Type 0} (span : ℕ) (f : ℕ → ℕ) (stays : (i : ℕ) → i < span → f i < span) (b : Array A) (u : ℕ) (t : Pile A) (life : ℕ) where
+module _ {A : Type 0} (span : ℕ) (f g : ℕ → ℕ) (undoes : Undoes span f g) (b : Array A) (u : ℕ) (t : Pile A) (life : ℕ) where
   made_by_answer : (r : Result (Unit {0}) Denial) → r ≡ scatter_survey span (length b.lines) (left b) → MatchResult r (λ _. life ≡ left b) (λ _. life ≡ 0)
       → MadeOver r (scatter span f) b u t (over (scatter (scatter_size life span) f) b u t)
       (array (scatter_lines life span f b.lines) 0 (paid_life life 0 life (0 + (b.life - b.taken)))) u
@@ -104,7 +105,7 @@ module _ {A : Type 0} (span : ℕ) (f : ℕ → ℕ) (stays : (i : ℕ) → i < 
       let wide : span ≤ length b.lines = grind (arith, e) in
       let lives : 1 ≤ left b = grind (arith, e) in
       let paid : paid_life life 0 life (0 + (b.life - b.taken)) ≡ left b = paid_yes life 0 life (0 + (b.life - b.taken)) (omega arith) ∙ l in
-      rw (size_fit life span (omega arith)) (refl, record { wide = wide; stays = stays; lines = refl; taken = refl; life = paid; lives = omega arith }, refl)
+      rw (size_fit life span (omega arith)) (refl, record { wide = wide; stays = undoes.stays; lines = refl; taken = refl; life = paid; lives = omega arith }, refl)
   made_by_answer (Err d) e l = rw l ((scatter 0 f, (refl, refl)), unfit_means 0 0 (0 + (b.life - b.taken)) f b.lines, refl)
 
   pub scatter_made : (r : Result (Unit {0}) Denial) → r ≡ scatter_survey span (length b.lines) (left b) → MatchResult r (λ _. life ≡ left b) (λ _. life ≡ 0)

@@ -32,12 +32,13 @@ below_undoes n f g sf sg u v = record {
   back_rest = below_out n g;
 }
 
-pub permutes : (n : ℕ) (f g : ℕ → ℕ)
-    → ((x : ℕ) → x < n → f x < n) → ((x : ℕ) → x < n → g x < n)
-    → ((x : ℕ) → x < n → g (f x) ≡ x) → ((x : ℕ) → x < n → f (g x) ≡ x)
-    → Permutes n f
-permutes n f g sf sg u v = record {
-  within = sf;
-  injective = λ x y hx hy e. sym (u x hx) ∙ ap g e ∙ u y hy;
-  onto = λ y h. (g y, sg y h, v y h);
+pub forward_permutes : (n : ℕ) (f g : ℕ → ℕ) → Undoes n f g → Permutes n f
+forward_permutes n f g u = record {
+  within = u.stays;
+  injective = λ x y hx hy e. sym (u.undone x hx) ∙ ap g e ∙ u.undone y hy;
+  onto = λ y h. (g y, u.back_stays y h, u.back_undone y h);
 }
+
+pub back_permutes : (n : ℕ) (f g : ℕ → ℕ) → Undoes n f g → Permutes n g
+back_permutes n f g u = forward_permutes n g f
+    (record { stays = u.back_stays; back_stays = u.stays; undone = u.back_undone; back_undone = u.undone; rest = u.back_rest; back_rest = u.rest })

@@ -40,17 +40,7 @@ impl Shuffle for Feistel {
 
     ghost few = { λ s. four_few s.half_width.bits s.half_width.few };
 
-    ghost stays = { λ s. (feistel_undoes s.half_width.bits s.keys).stays };
-
-    ghost back_stays = { λ s. (feistel_undoes s.half_width.bits s.keys).back_stays };
-
-    ghost undone = { λ s. (feistel_undoes s.half_width.bits s.keys).undone };
-
-    ghost back_undone = { λ s. (feistel_undoes s.half_width.bits s.keys).back_undone };
-
-    ghost rest = { λ s. (feistel_undoes s.half_width.bits s.keys).rest };
-
-    ghost back_rest = { λ s. (feistel_undoes s.half_width.bits s.keys).back_rest };
+    ghost undoes = { λ s. feistel_undoes s.half_width.bits s.keys };
 
     #[tactic(auto, using(crate::specs::Powers::four_shl))]
     fn span(&self) -> u16 {

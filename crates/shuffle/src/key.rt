@@ -38,17 +38,7 @@ impl Shuffle for KeyShuffle {
 
     ghost few = { λ s. key_few s.width.bits s.width.few };
 
-    ghost stays = { λ s. (key_undoes s.width.bits s.key).stays };
-
-    ghost back_stays = { λ s. (key_undoes s.width.bits s.key).back_stays };
-
-    ghost undone = { λ s. (key_undoes s.width.bits s.key).undone };
-
-    ghost back_undone = { λ s. (key_undoes s.width.bits s.key).back_undone };
-
-    ghost rest = { λ s. (key_undoes s.width.bits s.key).rest };
-
-    ghost back_rest = { λ s. (key_undoes s.width.bits s.key).back_rest };
+    ghost undoes = { λ s. key_undoes s.width.bits s.key };
 
     fn span(&self) -> u16 {
         self.width.size()

@@ -16,5 +16,5 @@ returns g c =
     let f = g.S.Shuffle.forward c.args.shuffle in
     let survey : c.survey.result ≡ scatter_survey span (length b.lines) (left b) = cc in
     let life : MatchResult c.survey.result (λ _. c.map_or-life.result ≡ left b) (λ _. c.map_or-life.result ≡ 0) = search rules in
-    let made = scatter_made span f (g.met.S.Shuffle.stays c.args.shuffle) b (g.M.Medium.wear c.args.below) (g.M.Medium.pile c.args.below) c.map_or-life.result c.survey.result survey life in
+    let made = scatter_made _ _ _ (g.met.S.Shuffle.undoes c.args.shuffle) b (g.M.Medium.wear c.args.below) (g.M.Medium.pile c.args.below) c.map_or-life.result c.survey.result survey life in
     record { kept = (refl, refl); made = made; fitted = fitted_over (scatter_survey span (length b.lines) (left b)) (scatter span f) b _ _ _ _ _ made }

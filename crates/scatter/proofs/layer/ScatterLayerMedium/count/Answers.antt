@@ -11,7 +11,7 @@ returns-then-size-count g c =
     let span = g.S.Shuffle.span x.shuffle in
     let f = g.S.Shuffle.forward x.shuffle in
     let n = scatter_size x.life span in
-    record { answer = c.size-size.ensures ∙ sym (placed_length n n f (stays_below x.life span f (g.met.S.Shuffle.stays x.shuffle)) (g.M.Medium.lines x.below) (omega arith)); bound = omega arith }
+    record { answer = c.size-size.ensures ∙ sym (placed_length n n f (stays_below x.life _ _ _ (g.met.S.Shuffle.undoes x.shuffle)) (g.M.Medium.lines x.below) (omega arith)); bound = omega arith }
 
 pub returns-else-size-count : goal.returns-else-size-count
 returns-else-size-count g c =
@@ -19,4 +19,4 @@ returns-else-size-count g c =
     let span = g.S.Shuffle.span x.shuffle in
     let f = g.S.Shuffle.forward x.shuffle in
     let n = scatter_size x.life span in
-    record { answer = sym (placed_empty n n f (stays_below x.life span f (g.met.S.Shuffle.stays x.shuffle)) (g.M.Medium.lines x.below) (omega arith)); bound = omega arith }
+    record { answer = sym (placed_empty n n f (stays_below x.life _ _ _ (g.met.S.Shuffle.undoes x.shuffle)) (g.M.Medium.lines x.below) (omega arith)); bound = omega arith }

@@ -18,11 +18,9 @@ returns g c =
     let x = c.args.self.now in
     let span = g.S.Shuffle.span x.shuffle in
     let f = g.S.Shuffle.forward x.shuffle in
-    let back = g.S.Shuffle.back x.shuffle in
-    let stays = g.met.S.Shuffle.stays x.shuffle in
-    let undone = g.met.S.Shuffle.undone x.shuffle in
+    let undoes = g.met.S.Shuffle.undoes x.shuffle in
     let h : c.args.line < length (scatter_lines x.life span f (g.M.Medium.lines x.below)) = omega arith in
     record {
-      answer = c.read.ensures.answer ∙ scatter_read x.life span f back stays undone (g.M.Medium.lines x.below) c.args.line c.forward.result h c.forward.ensures.answer;
-      below = scatter_served_read x.life span f back stays undone (means g.M.Medium x.below) _ _ _ _ c.args.line c.forward.result h c.forward.ensures.answer c.read.ensures.below;
+      answer = c.read.ensures.answer ∙ scatter_read x.life _ _ _ undoes (g.M.Medium.lines x.below) c.args.line c.forward.result h c.forward.ensures.answer;
+      below = scatter_served_read x.life _ _ _ undoes (means g.M.Medium x.below) _ _ _ _ c.args.line c.forward.result h c.forward.ensures.answer c.read.ensures.below;
     }

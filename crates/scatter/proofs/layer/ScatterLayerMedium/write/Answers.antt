@@ -25,7 +25,7 @@ returns-in_err-toll g c =
     let b = means g.M.Medium x.below in
     let h : c.args.line < length (scatter_lines x.life span f b.lines) = omega arith in
     let k : x.taken < paid_life x.life x.taken x.life (x.taken + (b.life - b.taken)) = omega arith in
-    let granted = scatter_grants x.life span f (g.S.Shuffle.back x.shuffle) (g.met.S.Shuffle.stays x.shuffle) (g.met.S.Shuffle.undone x.shuffle) b x.taken c.args.line c.forward.result c.args.value h k c.forward.ensures.answer in
+    let granted = scatter_grants x.life _ _ _ (g.met.S.Shuffle.undoes x.shuffle) b x.taken c.args.line c.forward.result c.args.value h k c.forward.ensures.answer in
     absurd (never _ _ granted c.in_err-toll.ensures.answer.answer.0)
 
 pub invariant_of-self-2 : goal.invariant_of-self-2
@@ -42,17 +42,15 @@ returns g c =
     let x = c.args.self.now in
     let span = g.S.Shuffle.span x.shuffle in
     let f = g.S.Shuffle.forward x.shuffle in
-    let back = g.S.Shuffle.back x.shuffle in
-    let stays = g.met.S.Shuffle.stays x.shuffle in
-    let undone = g.met.S.Shuffle.undone x.shuffle in
+    let undoes = g.met.S.Shuffle.undoes x.shuffle in
     let b = means g.M.Medium x.below in
     let h : c.args.line < length (scatter_lines x.life span f b.lines) = omega arith in
     let k : x.taken < paid_life x.life x.taken x.life (x.taken + (b.life - b.taken)) = omega arith in
     let b' = means g.M.Medium c.write.new.self in
     let w = c.in_ok-toll.ensures in
     record {
-      answer = scatter_wrote x.life span f back stays undone b b' _ _ x.taken c.args.line c.forward.result c.args.value _ h k c.forward.ensures.answer w.answer;
-      below = scatter_served_write x.life span f back stays undone b b' _ _ _ _ x.taken _ c.args.line c.forward.result c.args.value _ h k c.forward.ensures.answer w.answer w.below;
+      answer = scatter_wrote x.life _ _ _ undoes b b' _ _ x.taken c.args.line c.forward.result c.args.value _ h k c.forward.ensures.answer w.answer;
+      below = scatter_served_write x.life _ _ _ undoes b b' _ _ _ _ x.taken _ c.args.line c.forward.result c.args.value _ h k c.forward.ensures.answer w.answer w.below;
       memory = w.memory;
       effect = chained_one g.M.Medium x.below c.write.new.self c.forward.result (f c.args.line) c.args.value (Ok c.in_ok-toll.toll) c.forward.ensures.answer (record { answer = w.answer; below = w.below; effect = w.effect });
     }
