@@ -151,6 +151,7 @@ impl<S: Shuffle, M: Medium> Medium for ScatterLayer<S, M> {
     }
 
     fn write(&mut self, line: u16, value: M::Line) -> Result<u64, Denial> {
+        // `self.count()` would be the count of the `&mut`, which is a medium too
         if line >= (*self).count() {
             return Err(Denial::NoSuchLine);
         }
