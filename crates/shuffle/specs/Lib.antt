@@ -5,6 +5,7 @@ pub mod Key
 pub mod Marked
 pub mod Powers
 pub mod Rounds
+pub mod Split
 pub mod Undoing
 pub mod Networks
 pub mod Xored

@@ -1,7 +1,11 @@
 -- A Feistel network with any round functions: a number in two halves of n bits, its stages, and their undoing. Assumes nothing.
 use Rattle.std.specs.Prelude.{ℕ, ◌+◌, ◌*◌, ◌/◌, ◌%◌, ◌^◌, ◌<◌, List, [], ◌∷◌, bit_xor}
 use Rattle.shuffle.specs.Permutations.{below, Undoes}
-use Rattle.shuffle.specs.declared.feistel.Halves.{Halves}
+
+-- two halves of a number, the high and the low
+pub record Halves : Type 0 where
+  pub left : ℕ
+  pub right : ℕ
 
 -- the halves of a number of 2 n bits: its high n bits and its low n bits
 abbrev pub halves : ℕ → ℕ → Halves

@@ -1,7 +1,7 @@
 //! What a shuffle is: a span, a forward and a back that undo each other below the span, and what follows of every shuffle.
 
-ghost use Rattle.std.specs.Prelude.{◌≡◌, ℕ, ◌<◌, ◌≤◌};
-ghost use Rattle.shuffle.specs.Permutations.{Permutes};
+ghost use Rattle.std.specs.Prelude.{◌≡◌, ℕ, ◌≤◌};
+ghost use Rattle.shuffle.specs.Permutations.{Permutes, Undoes};
 
 /// A shuffle: a permutation of the numbers below its span, and the one that undoes it. Neither they nor the span ever change.
 pub trait Shuffle {
@@ -27,17 +27,7 @@ pub trait Shuffle {
     // The law: below the span, which is at most 4,096, each stays below it and undoes the other; any other number stays where it is.
     ghost few: { (s : Self) → span s ≤ 4096 };
 
-    ghost stays: { (s : Self) (x : ℕ) → x < span s → forward s x < span s };
-
-    ghost back_stays: { (s : Self) (x : ℕ) → x < span s → back s x < span s };
-
-    ghost undone: { (s : Self) (x : ℕ) → x < span s → back s (forward s x) ≡ x };
-
-    ghost back_undone: { (s : Self) (x : ℕ) → x < span s → forward s (back s x) ≡ x };
-
-    ghost rest: { (s : Self) (x : ℕ) → span s ≤ x → forward s x ≡ x };
-
-    ghost back_rest: { (s : Self) (x : ℕ) → span s ≤ x → back s x ≡ x };
+    ghost undoes: { (s : Self) → Undoes (span s) (forward s) (back s) };
 }
 
 /// Shuffles a number forward and then back: the number itself, since forward permutes the numbers below the span.

@@ -12,12 +12,13 @@ pub fn marked_cases() -> [u16; 3]
     ensures marked { MarkedShuffle }
     ensures answer { result ≡ 5 ∷ 9 ∷ 10 ∷ [] }
 {
-    match Feistel::new(2, [1, 2, 3]) {
-        Ok(shuffle) => [shuffle.forward(0), shuffle.forward(6), shuffle.forward(15)],
-        Err(_) => unreachable(),
-    }
+    let Ok(shuffle) = Feistel::new(2, [1, 2, 3]) else {
+        unreachable()
+    };
+    [shuffle.forward(0), shuffle.forward(6), shuffle.forward(15)]
 }
 
+#[tactic(auto, using(crate::specs::Networks::network_undoes))]
 /// States that in every Feistel network back undoes forward, whatever its round functions, if their answers have the width of a half.
 pub fn any_round_functions()
     ensures undoes { NetworkUndoes }

@@ -1,11 +1,12 @@
-use Rattle.std.proofs.Common.{◌≡◌, ℕ, ◌+◌, ◌-◌, ◌<◌, length, Ok, refl, arith}
+-- What is paid for is granted below, at the place to which the shuffle takes the line.
+use Rattle.std.proofs.Common.{◌<◌, ◌+◌, ◌-◌, length, Ok, refl, arith}
 use Rattle.medium.specs.Meaning.{means}
-use Rattle.medium.specs.Pile.{placed_lines, paid_life}
+use Rattle.medium.specs.Pile.{paid_life}
 use Rattle.medium.proofs.Arrays.{denies_line, denies_life, wrote_denied}
 use Rattle.medium.proofs.Chains.{chained_one}
 use Rattle.medium.proofs.Layers.{paid_below, layer_denied, never}
-use Rattle.scatter.specs.Scatters.{scatter_size}
-use Rattle.scatter.proofs.Scattered.{below_size, stays_below, scatter_served_write, scatter_grants, scatter_wrote}
+use Rattle.scatter.specs.Scatters.{scatter_lines}
+use Rattle.scatter.proofs.Scattered.{scatter_served_write, scatter_grants, scatter_wrote}
 use Rattle.scatter.proofs.layer.ScatterLayerMedium.write.Goals as goal
 
 pub returns-then-line-count : goal.returns-then-line-count
@@ -19,52 +20,37 @@ returns-then-self-life g c =
 pub returns-in_err-toll : goal.returns-in_err-toll
 returns-in_err-toll g c =
     let x = c.args.self.now in
-    let sh = x.shuffle in
-    let n = scatter_size x.fit (g.S.Shuffle.span sh) in
-    let f = g.S.Shuffle.forward sh in
-    let stays : (i : ℕ) → i < n → f i < n = stays_below x.fit (g.S.Shuffle.span sh) f (g.met.S.Shuffle.stays sh) in
-    let back = g.S.Shuffle.back sh in
-    let undone : (i : ℕ) → i < n → back (f i) ≡ i = below_size x.fit (g.S.Shuffle.span sh) (λ i. back (f i) ≡ i) (g.met.S.Shuffle.undone sh) in
+    let span = g.S.Shuffle.span x.shuffle in
+    let f = g.S.Shuffle.forward x.shuffle in
     let b = means g.M.Medium x.below in
-    let h : c.args.line < length (placed_lines n n f b.lines) = omega arith in
+    let h : c.args.line < length (scatter_lines x.life span f b.lines) = omega arith in
     let k : x.taken < paid_life x.life x.taken x.life (x.taken + (b.life - b.taken)) = omega arith in
-    absurd (never _ _ (scatter_grants n f back stays undone b x.life x.taken c.args.line c.forward.result c.args.value h k c.forward.ensures.answer) c.in_err-toll.ensures.answer.answer.0)
+    let granted = scatter_grants x.life _ _ _ (g.met.S.Shuffle.undoes x.shuffle) b x.taken c.args.line c.forward.result c.args.value h k c.forward.ensures.answer in
+    absurd (never _ _ granted c.in_err-toll.ensures.answer.answer.0)
 
 pub invariant_of-self-2 : goal.invariant_of-self-2
 invariant_of-self-2 g c =
     let x = c.args.self.now in
-    let sh = x.shuffle in
-    let n = scatter_size x.fit (g.S.Shuffle.span sh) in
-    let f = g.S.Shuffle.forward sh in
-    let stays : (i : ℕ) → i < n → f i < n = stays_below x.fit (g.S.Shuffle.span sh) f (g.met.S.Shuffle.stays sh) in
-    let back = g.S.Shuffle.back sh in
-    let undone : (i : ℕ) → i < n → back (f i) ≡ i = below_size x.fit (g.S.Shuffle.span sh) (λ i. back (f i) ≡ i) (g.met.S.Shuffle.undone sh) in
     let b = means g.M.Medium x.below in
-    let h : c.args.line < length (placed_lines n n f b.lines) = omega arith in
     let k : x.taken < paid_life x.life x.taken x.life (x.taken + (b.life - b.taken)) = omega arith in
     let p = paid_below x.life x.taken x.life _ k in
     let p1 = p.1 in
-    record {
-      within = omega arith;
-    }
+    record { within = omega arith }
 
 pub returns : goal.returns
 returns g c =
     let x = c.args.self.now in
-    let sh = x.shuffle in
-    let n = scatter_size x.fit (g.S.Shuffle.span sh) in
-    let f = g.S.Shuffle.forward sh in
-    let stays : (i : ℕ) → i < n → f i < n = stays_below x.fit (g.S.Shuffle.span sh) f (g.met.S.Shuffle.stays sh) in
-    let back = g.S.Shuffle.back sh in
-    let undone : (i : ℕ) → i < n → back (f i) ≡ i = below_size x.fit (g.S.Shuffle.span sh) (λ i. back (f i) ≡ i) (g.met.S.Shuffle.undone sh) in
+    let span = g.S.Shuffle.span x.shuffle in
+    let f = g.S.Shuffle.forward x.shuffle in
+    let undoes = g.met.S.Shuffle.undoes x.shuffle in
     let b = means g.M.Medium x.below in
-    let h : c.args.line < length (placed_lines n n f b.lines) = omega arith in
+    let h : c.args.line < length (scatter_lines x.life span f b.lines) = omega arith in
     let k : x.taken < paid_life x.life x.taken x.life (x.taken + (b.life - b.taken)) = omega arith in
     let b' = means g.M.Medium c.write.new.self in
     let w = c.in_ok-toll.ensures in
     record {
-      answer = scatter_wrote n f back stays undone b b' _ _ x.life x.taken c.args.line c.forward.result c.args.value _ h k c.forward.ensures.answer w.answer;
-      below = scatter_served_write n f back stays undone b b' _ _ _ _ x.taken _ c.args.line c.forward.result c.args.value _ h k c.forward.ensures.answer w.answer w.below;
+      answer = scatter_wrote x.life _ _ _ undoes b b' _ _ x.taken c.args.line c.forward.result c.args.value _ h k c.forward.ensures.answer w.answer;
+      below = scatter_served_write x.life _ _ _ undoes b b' _ _ _ _ x.taken _ c.args.line c.forward.result c.args.value _ h k c.forward.ensures.answer w.answer w.below;
       memory = w.memory;
       effect = chained_one g.M.Medium x.below c.write.new.self c.forward.result (f c.args.line) c.args.value (Ok c.in_ok-toll.toll) c.forward.ensures.answer (record { answer = w.answer; below = w.below; effect = w.effect });
     }

@@ -1,12 +1,14 @@
--- What the undoing of the three stages leaves is what the network of the three keys answers back.
-use Rattle.std.proofs.Common.{arith}
-use Rattle.shuffle.specs.Rounds.{back_is}
+-- The stages of the keys undone, the last first, are the network's.
+use Rattle.std.proofs.Common.{◌≡◌, ◌∙◌, arith, rules}
+use Rattle.std.specs.Prelude.{reverse}
+use Rattle.std.specs.List.{fold}
+use Rattle.shuffle.specs.Split.{unstage_of}
+use Rattle.shuffle.proofs.Stages.{back_is}
 use Rattle.shuffle.proofs.feistel.FeistelShuffle.back.Goals as goal
 
 pub returns : goal.returns
-returns c = record {
-  answer =
-      back_is c.args.self.now.half_width c.args.self.now.keys (omega arith) c.args.number (omega arith)
-      c.split.result c.unstage.result c.unstage-2.result c.unstage-3.result c.join.result c.split.ensures.value c.join.ensures.value
-      c.unstage.ensures.value c.unstage-2.ensures.value c.unstage-3.ensures.value;
-}
+returns c =
+    let s = c.args.self.now in
+    let unstaged : c.fold.result ≡ fold unstage_of c.new.result (reverse s.keys) = search rules in
+    let n = c.new.ensures in
+    record { answer = c.join.ensures ∙ back_is s.half_width c.args.number (omega arith) c.new.result c.fold.result n.width n.halves s.keys unstaged }

@@ -1,8 +1,0 @@
--- A number of at most 6 bits has a square that fits 16 bits.
-use Rattle.std.proofs.Common.{arith}
-use Rattle.shuffle.specs.Rounds.{mixed_fits}
-use Rattle.shuffle.proofs.feistel.round_of.Goals as goal
-
-pub overflow_mul-result : goal.overflow_mul-result
-overflow_mul-result c =
-    omega (arith, mixed_fits c.args.n c.args.half c.args.key c.half_size-size.result c.half_size-size.ensures.value c.requires.few c.requires.within)
