@@ -89,6 +89,7 @@ impl<M: Medium> GapLayer<M> {
 
     /// The line that is at a place below: none at a gap, and none at a place past the regions.
     /// A number not below the count of the medium below is denied with 1.
+    #[tactic(auto, using(crate::proofs::Fields::sound_of))]
     pub fn holder(&self, place: u16) -> Result<Option<u16>, Denial>
         ensures answer { result ≡ holder_answer (registers self.now.regions) (length (M.Medium.lines self.now.below)) place }
         ensures sound { GapsSound (registers self.now.regions) }
@@ -132,6 +133,7 @@ impl<M: Medium> Medium for GapLayer<M> {
         }
     }
 
+    #[tactic(auto, unfolding(medium::specs::Pile::paid_life))]
     fn life(&self) -> u32 {
         let left = self.below.life() - self.below.taken();
         let cost = self.life as u64 + self.regions.copies_after(self.life) as u64;
@@ -142,6 +144,7 @@ impl<M: Medium> Medium for GapLayer<M> {
         }
     }
 
+    #[tactic(auto, unfolding(medium::specs::Pile::paid_life))]
     fn taken(&self) -> u32 {
         self.taken
     }

@@ -69,14 +69,11 @@ impl Region {
         ensures answer { result ≡ row_holder self.size self.row place }
         ensures bound { IfSome result (λ offset. offset < self.size) }
     {
-        if place == self.row.gap {
+        let gap = self.row.gap;
+        if place == gap {
             return None;
         }
-        let rotated = if place < self.row.gap {
-            place
-        } else {
-            place - 1
-        };
+        let rotated = if place < gap { place } else { place - 1 };
         Some((rotated + (self.size - self.row.start)) % self.size)
     }
 
@@ -86,11 +83,7 @@ impl Region {
         ensures answer { result ≡ row_from self.size self.row }
         ensures bound { result ≤ self.size }
     {
-        if self.row.gap > 0 {
-            self.row.gap - 1
-        } else {
-            self.size
-        }
+        self.row.gap.checked_sub(1).unwrap_or(self.size)
     }
 }
 
