@@ -84,6 +84,10 @@ module _ {A : Type 0} (g : Gaps) (s : GapsSound g) (b : Array A) where
       layer_accepted (gaps g) (gaps g) b b u u t t (gap_array g life taken b) (Read i) (accepts_read _ i h) refl
       (asked_read b u t (gap_place g i) (place_there i h) (subst (λ x. Served t b u (Read x ∷ []) t u) e served))
 
+-- a line that is there is one of the regions'
+pub line_below : {A : Type 0} (x : Regions) (ls : List A) (i : ℕ) → i < length (gap_lines (registers x) ls) → i < line_count (registers x)
+line_below x ls i h = (placed_in (line_count (registers x)) (place_count (registers x)) (gap_place (registers x)) (place_within (registers x) (sound_of x)) ls i h).0
+
 -- ---- what the life pays for
 module _ {A : Type 0} (g : Gaps) (life taken : ℕ) (held : Held g taken life) (b : Array A) where
   -- what is left below pays for a write
