@@ -63,30 +63,36 @@ placed g n line p e = grind (arith, nat_tests)
 pub not_placed : (g : Gaps) (n line : ℕ) (d : Denial) → Err d ≡ place_answer g n line → n ≤ line
 not_placed g n line d e = grind (arith, nat_tests)
 
--- ---- places, over what means the array b
-module _ {A : Type 0} (g : Gaps) (s : GapsSound g) (b : Array A) where
-  pub line_there : (i : ℕ) → i < length (gap_lines g b.lines) → (i < line_count g) × (place_count g ≤ length b.lines)
-  line_there i h = placed_in (line_count g) (place_count g) (gap_place g) (place_within g s) b.lines i h
+-- ---- places, over the lines ls
+module _ {A : Type 0} (g : Gaps) (s : GapsSound g) (ls : List A) where
+  pub line_there : (i : ℕ) → i < length (gap_lines g ls) → (i < line_count g) × (place_count g ≤ length ls)
+  line_there i h = placed_in (line_count g) (place_count g) (gap_place g) (place_within g s) ls i h
 
-  pub place_there : (i : ℕ) → i < length (gap_lines g b.lines) → gap_place g i < length b.lines
+  pub place_there : (i : ℕ) → i < length (gap_lines g ls) → gap_place g i < length ls
   place_there i h = let k = line_there i h in let l = place_within g s i k.0 in let m = k.1 in omega arith
 
-  pub read_line : (i p : ℕ) → i < length (gap_lines g b.lines) → p ≡ gap_place g i → fetched b.lines p ≡ fetched (gap_lines g b.lines) i
+  pub read_line : (i p : ℕ) → i < length (gap_lines g ls) → p ≡ gap_place g i → fetched ls p ≡ fetched (gap_lines g ls) i
   read_line i p h e =
       let k = line_there i h in
-      ap (λ x. fetched b.lines x) e
-      ∙ fetched_same (gap_lines g b.lines) b.lines i (gap_place g i) h (place_there i h)
-      (λ d. placed_at (line_count g) (place_count g) (gap_place g) (place_within g s) b.lines i d k.1 k.0)
+      ap (λ x. fetched ls x) e
+      ∙ fetched_same (gap_lines g ls) ls i (gap_place g i) h (place_there i h)
+      (λ d. placed_at (line_count g) (place_count g) (gap_place g) (place_within g s) ls i d k.1 k.0)
 
-  pub read_served : (life taken u : ℕ) (t : Pile A) (i p : ℕ) → i < length (gap_lines g b.lines) → p ≡ gap_place g i → Served t b u (Read p ∷ []) t u
-      → Served (over (gaps g) b u t) (gap_array g life taken b) u (Read i ∷ []) (over (gaps g) b u t) u
-  read_served life taken u t i p h e served =
-      layer_accepted (gaps g) (gaps g) b b u u t t (gap_array g life taken b) (Read i) (accepts_read _ i h) refl
-      (asked_read b u t (gap_place g i) (place_there i h) (subst (λ x. Served t b u (Read x ∷ []) t u) e served))
+-- a read over what means the array b, is served
+pub read_served : {A : Type 0} (g : Gaps) (s : GapsSound g) (b : Array A) (life taken u : ℕ) (t : Pile A) (i p : ℕ)
+    → i < length (gap_lines g b.lines) → p ≡ gap_place g i → Served t b u (Read p ∷ []) t u
+    → Served (over (gaps g) b u t) (gap_array g life taken b) u (Read i ∷ []) (over (gaps g) b u t) u
+read_served g s b life taken u t i p h e served =
+    layer_accepted (gaps g) (gaps g) b b u u t t (gap_array g life taken b) (Read i) (accepts_read _ i h) refl
+    (asked_read b u t (gap_place g i) (place_there g s b.lines i h) (subst (λ x. Served t b u (Read x ∷ []) t u) e served))
 
--- a line that is there is one of the regions'
+-- of the registers that a layer holds: a line that is there is one of the regions', and is read at its place
 pub line_below : {A : Type 0} (x : Regions) (ls : List A) (i : ℕ) → i < length (gap_lines (registers x) ls) → i < line_count (registers x)
-line_below x ls i h = (placed_in (line_count (registers x)) (place_count (registers x)) (gap_place (registers x)) (place_within (registers x) (sound_of x)) ls i h).0
+line_below x ls i h = (line_there (registers x) (sound_of x) ls i h).0
+
+pub line_read : {A : Type 0} (x : Regions) (ls : List A) (i p : ℕ) → i < length (gap_lines (registers x) ls) → p ≡ gap_place (registers x) i
+    → fetched ls p ≡ fetched (gap_lines (registers x) ls) i
+line_read x ls i p h e = read_line (registers x) (sound_of x) ls i p h e
 
 -- ---- what the life pays for
 module _ {A : Type 0} (g : Gaps) (life taken : ℕ) (held : Held g taken life) (b : Array A) where
@@ -102,7 +108,7 @@ module _ {A : Type 0} (g : Gaps) (life taken : ℕ) (held : Held g taken life) (
   pub write_accepted : (i p : ℕ) (v : A) → i < length (gap_lines g b.lines) → taken < gap_life g life taken (left b) → p ≡ gap_place g i
       → denied_by b (Write p v) ≡ None
   write_accepted i p v h k e =
-      let q = place_there g held.sound b i h in
+      let q = place_there g held.sound b.lines i h in
       let l = write_paid k in
       let l0 = l.0 in
       let l1 = l.1 in
@@ -114,7 +120,7 @@ module _ {A : Type 0} (g : Gaps) (life taken : ℕ) (held : Held g taken life) (
       → g.copies + 1 ≤ life / g.interval
   move_paid i h k d =
       let l = write_paid k in
-      let low = line_low g held.sound i (line_there g held.sound b i h).0 in
+      let low = line_low g held.sound i (line_there g held.sound b.lines i h).0 in
       pays_two life taken g.copies g.interval (total_due g.rows) (row_at g (i / g.size)).due held.sound.paced held.counted
       (get_or-le-sum_by (λ (w : Row). w.due) g.rows (i / g.size) no_row low) d l.0
 

@@ -95,10 +95,10 @@ module _ {A : Type 0} {g : Gaps} {life taken : ℕ} {b b1 : Array A} {i p : ℕ}
   sound = s.held.sound
 
   hi : i < line_count g
-  hi = (line_there g sound b i s.there).0
+  hi = (line_there g sound b.lines i s.there).0
 
   hn : place_count g ≤ length b.lines
-  hn = (line_there g sound b i s.there).1
+  hn = (line_there g sound b.lines i s.there).1
 
   hr : i / g.size < g.regions
   hr = line_region g sound i hi

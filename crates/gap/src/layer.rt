@@ -75,7 +75,7 @@ impl<M: Medium> GapLayer<M> {
     }
 
     /// The place below of a line. A number not below the layer's count is denied with 1.
-    #[tactic(auto, using(crate::proofs::Fields::sound_of, crate::proofs::Fields::line_below))]
+    #[tactic(auto, using(crate::proofs::Fields::sound_of, crate::proofs::Fields::line_below, crate::proofs::Fields::line_read))]
     pub fn where_is(&self, line: u16) -> Result<u16, Denial>
         ensures answer { result ≡ place_answer (registers self.now.regions) (length (⟦<GapLayer<M> as Medium>⟧.lines self.now)) line }
         ensures content { IfOk result (λ p. fetched (M.Medium.lines self.now.below) p ≡ fetched (⟦<GapLayer<M> as Medium>⟧.lines self.now) line) }
@@ -159,6 +159,7 @@ impl<M: Medium> Medium for GapLayer<M> {
         self.below.read(place)
     }
 
+    #[tactic(auto, using(crate::proofs::Fields::line_below))]
     fn write(&mut self, line: u16, value: M::Line) -> Result<u64, Denial> {
         if line >= (*self).count() {
             return Err(Denial::NoSuchLine);

@@ -13,7 +13,7 @@ use Rattle.medium.proofs.Chains.{chained_none, chained_read, chained_write}
 use Rattle.medium.proofs.Layers.{never, layer_denied}
 use Rattle.gap.specs.Regions.{gap_array}
 use Rattle.gap.specs.Registers.{registers}
-use Rattle.gap.proofs.Fields.{sound_of, fields, fetched_never, line_there, write_paid, write_accepted, counted_after}
+use Rattle.gap.proofs.Fields.{fields, fetched_never, line_below, write_paid, write_accepted, counted_after}
 use Rattle.gap.proofs.Written.{Begun, Copied, from_there, move_accepted, counted_wrote, counted_requests, counted_served, moved_wrote, moved_requests, moved_served}
 use Rattle.gap.proofs.layer.GapLayerMedium.write.Goals as goal
 use Rattle.gap.proofs.layer.GapLayerMedium.write.Goals.{in-Some+in_ok-moved-in-Some+in_ok-more-in-Some, in-None}
@@ -48,11 +48,6 @@ returns-then-self-life g c =
       effect = refl;
     }
 
-pub split-region-requires : goal.split-region-requires
-split-region-requires g c =
-    let x = c.args.self.now in
-    (line_there (registers x.regions) (sound_of x.regions) (means g.M.Medium x.below) c.args.line (omega arith)).0
-
 pub returns-in_err-toll : goal.returns-in_err-toll
 returns-in_err-toll g c =
     let x = c.args.self.now in
@@ -85,7 +80,7 @@ invariant_of-self-2 g c =
     let i = c.args.line in
     let G = registers x.regions in
     let b = means g.M.Medium x.below in
-    let hi = (line_there G (sound_of x.regions) b i (omega arith)).0 in
+    let hi = line_below x.regions b.lines i (omega arith) in
     let tl = (write_paid G x.life x.taken (fields x) b (omega arith)).0 in
     record {
       within = omega arith;
