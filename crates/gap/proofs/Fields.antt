@@ -5,9 +5,9 @@ use Rattle.std.proofs.lemmas.Bool.Decides.{nat_tests}
 use Rattle.std.proofs.lemmas.List.Sums.{get_or-le-sum_by}
 use Rattle.line.specs.declared.denial.Denial.{Denial}
 use Rattle.startgap.specs.declared.row.Row.{Row}
-use Rattle.startgap.specs.Rows.{row_counted, row_moved}
-use Rattle.startgap.specs.Regions.{Gaps, GapsSound, no_row, row_at, line_count, place_count, gap_place, with_row, after_write, total_due}
-use Rattle.startgap.proofs.Regions.{place_within}
+use Rattle.startgap.specs.Rows.{row_place, row_counted, row_moved}
+use Rattle.startgap.specs.Regions.{Gaps, GapsSound, no_row, row_at, line_count, place_count, gap_place, gap_holder, with_row, after_write, total_due}
+use Rattle.startgap.proofs.Regions.{place_at, place_within, holder_past}
 use Rattle.startgap.proofs.Runs.{write_interval, write_sum}
 use Rattle.startgap.proofs.Writes.{write_counts, write_moves, line_low}
 use Rattle.medium.specs.Array.{Array, fetched, denied_by}
@@ -15,7 +15,7 @@ use Rattle.medium.specs.Law.{left}
 use Rattle.medium.specs.Pile.{gaps, Pile, over, Served}
 use Rattle.medium.specs.declared.call.Call.TheVariants.{Read, Write}
 use Rattle.medium.proofs.Arrays.{accepts_read, accepts_write, fetched_by}
-use Rattle.medium.proofs.Layers.{placed_in, placed_at, fetched_same, paid_below, asked_read, layer_accepted}
+use Rattle.medium.proofs.Layers.{placed_in, placed_at, placed_length, placed_empty, fetched_same, paid_below, asked_read, layer_accepted}
 use Rattle.gap.specs.declared.layer.GapLayer.{GapLayer}
 use Rattle.gap.specs.declared.regions.Regions.{Regions}
 use Rattle.gap.specs.Regions.{gap_lines, gap_life, gap_array, place_answer}
@@ -86,7 +86,25 @@ read_served g s b life taken u t i p h e served =
     layer_accepted (gaps g) (gaps g) b b u u t t (gap_array g life taken b) (Read i) (accepts_read _ i h) refl
     (asked_read b u t (gap_place g i) (place_there g s b.lines i h) (subst (λ x. Served t b u (Read x ∷ []) t u) e served))
 
--- of the registers that a layer holds: a line that is there is one of the regions', and is read at its place
+-- of the registers that a layer holds: how many lines are there, by what lies below
+pub line_total : {A : Type 0} (x : Regions) (ls : List A) → place_count (registers x) ≤ length ls
+    → length (gap_lines (registers x) ls) ≡ line_count (registers x)
+line_total x ls h =
+    let g = registers x in placed_length (line_count g) (place_count g) (gap_place g) (place_within g (sound_of x)) ls h
+
+pub line_none : {A : Type 0} (x : Regions) (ls : List A) → length ls < place_count (registers x) → length (gap_lines (registers x) ls) ≡ 0
+line_none x ls h =
+    let g = registers x in placed_empty (line_count g) (place_count g) (gap_place g) (place_within g (sound_of x)) ls h
+
+-- where a line is, and which places hold none
+pub place_in : (x : Regions) (region offset : ℕ) → offset < x.size
+    → gap_place (registers x) (region * x.size + offset) ≡ region * (x.size + 1) + row_place x.size (row_at (registers x) region) offset
+place_in x region offset h = place_at (registers x) region offset h
+
+pub holder_past_all : (x : Regions) (place : ℕ) → place_count (registers x) ≤ place → gap_holder (registers x) place ≡ None
+holder_past_all x place h = holder_past (registers x) place h
+
+-- a line that is there is one of the regions', and is read at its place
 pub line_below : {A : Type 0} (x : Regions) (ls : List A) (i : ℕ) → i < length (gap_lines (registers x) ls) → i < line_count (registers x)
 line_below x ls i h = (line_there (registers x) (sound_of x) ls i h).0
 

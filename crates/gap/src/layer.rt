@@ -126,6 +126,7 @@ impl<M: Medium> Medium for GapLayer<M> {
 
     ghost effect = { λ x i v r y. LayerEffect M.Medium x y x.below y.below (gaps (registers x.regions)) (gap_lines (registers x.regions) (M.Medium.lines x.below)) i v r };
 
+    #[tactic(auto, using(crate::proofs::Fields::line_total, crate::proofs::Fields::line_none))]
     fn count(&self) -> u16 {
         if self.regions.place_count() <= self.below.count() {
             self.regions.line_count()

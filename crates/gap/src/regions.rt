@@ -196,6 +196,7 @@ impl Regions {
     }
 
     /// The place below of the line at `offset` of a region.
+    #[tactic(auto, using(crate::proofs::Fields::place_in))]
     pub(crate) fn place(&self, region: u16, offset: u16) -> u16
         requires region { region < self.now.count }
         requires offset { offset < self.now.size }
@@ -205,6 +206,7 @@ impl Regions {
     }
 
     /// The line that is at a place below: none at a gap, and none at a place past the regions.
+    #[tactic(auto, using(crate::proofs::Fields::holder_past_all))]
     pub(crate) fn holder(&self, place: u16) -> Option<u16>
         ensures { result ≡ gap_holder (registers self.now) place }
     {

@@ -1,9 +1,8 @@
 -- By the parts of the place, and the row of its region.
-use Rattle.std.proofs.Common.{◌≡◌, ℕ, ◌+◌, ◌*◌, Some, None, Option, MatchOption, sym, arith, rules}
+use Rattle.std.proofs.Common.{◌≡◌, ℕ, ◌+◌, ◌*◌, Some, None, Option, MatchOption, arith, rules}
 use Rattle.std.specs.Option.{IsSomeAnd}
 use Rattle.startgap.specs.Rows.{row_holder}
 use Rattle.startgap.specs.Regions.{row_at, in_region}
-use Rattle.startgap.proofs.Regions.{holder_past}
 use Rattle.gap.proofs.Holders.{holder_parts}
 use Rattle.gap.specs.Registers.{registers}
 use Rattle.gap.proofs.regions.Regions.holder.Goals as goal
@@ -12,9 +11,6 @@ mapped : (o r : Option ℕ) (size region : ℕ) → MatchOption o (r ≡ None) (
 mapped None r size region e = e
 mapped (Some x) None size region e = absurd e
 mapped (Some x) (Some y) size region e = grind arith
-
-pub returns-then-place-place_count : goal.returns-then-place-place_count
-returns-then-place-place_count c = sym (holder_past (registers c.args.self.now) c.args.place (omega arith))
 
 pub returns : goal.returns
 returns c =
