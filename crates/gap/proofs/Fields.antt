@@ -1,6 +1,6 @@
 -- What the fields of a layer keep true, and what it means by them. The registers are sound, so places and lines follow the laws of
 -- regions; and copies * interval, with what is due, is taken, so that the life pays for each copy before it is made.
-use Rattle.std.proofs.Common.{◌≡◌, ℕ, ◌+◌, ◌*◌, ◌/◌, ◌<◌, ◌≤◌, ◌≢◌, List, [], ◌∷◌, length, get_or, None, Ok, Err, sym, refl, ap, ◌∙◌, subst, add-mul, le-div_iff_mul-le, arith}
+use Rattle.std.proofs.Common.{◌≡◌, ℕ, ◌+◌, ◌*◌, ◌/◌, ◌<◌, ◌≤◌, ◌≢◌, List, [], ◌∷◌, length, get_or, None, Ok, Err, refl, ap, ◌∙◌, subst, add-mul, le-div_iff_mul-le, arith}
 use Rattle.std.proofs.lemmas.Bool.Decides.{nat_tests}
 use Rattle.std.proofs.lemmas.List.Sums.{get_or-le-sum_by}
 use Rattle.line.specs.declared.denial.Denial.{Denial}
@@ -101,8 +101,8 @@ pub place_in : (x : Regions) (region offset : ℕ) → offset < x.size
     → gap_place (registers x) (region * x.size + offset) ≡ region * (x.size + 1) + row_place x.size (row_at (registers x) region) offset
 place_in x region offset h = place_at (registers x) region offset h
 
-pub holder_past_all : (x : Regions) (place : ℕ) → place_count (registers x) ≤ place → gap_holder (registers x) place ≡ None
-holder_past_all x place h = holder_past (registers x) place h
+pub holder_rests : (x : Regions) (place : ℕ) → place_count (registers x) ≤ place → gap_holder (registers x) place ≡ None
+holder_rests x place h = holder_past (registers x) place h
 
 -- a line that is there is one of the regions', and is read at its place
 pub line_below : {A : Type 0} (x : Regions) (ls : List A) (i : ℕ) → i < length (gap_lines (registers x) ls) → i < line_count (registers x)
@@ -151,13 +151,11 @@ counted_after g g' life taken i held h e =
     ∙ write_sum g held.sound i h
     ∙ ap (λ n. n + 1) held.counted
 
--- ---- the registers after a write, by the region of its line
-pub region_counts : (g : Gaps) (region line : ℕ) → line / g.size ≡ region → (row_at g region).due + 1 ≢ g.interval
-    → with_row g region (row_counted (row_at g region)) g.copies ≡ after_write g line
-region_counts g region line e ne =
-    subst (λ r. (row_at g r).due + 1 ≢ g.interval → with_row g r (row_counted (row_at g r)) g.copies ≡ after_write g line) e (λ n. sym (write_counts g line n).0) ne
+-- ---- the registers after a write
+pub turned_counts : (x : Regions) (line : ℕ) → (row_at (registers x) (line / x.size)).due + 1 ≢ x.interval
+    → after_write (registers x) line ≡ with_row (registers x) (line / x.size) (row_counted (row_at (registers x) (line / x.size))) x.copies
+turned_counts x line ne = (write_counts (registers x) line ne).0
 
-pub region_moves : (g : Gaps) (region line : ℕ) → line / g.size ≡ region → (row_at g region).due + 1 ≡ g.interval
-    → with_row g region (row_moved g.size (row_at g region)) (g.copies + 1) ≡ after_write g line
-region_moves g region line e d =
-    subst (λ r. (row_at g r).due + 1 ≡ g.interval → with_row g r (row_moved g.size (row_at g r)) (g.copies + 1) ≡ after_write g line) e (λ n. sym (write_moves g line n).0) d
+pub turned_moves : (x : Regions) (line : ℕ) → (row_at (registers x) (line / x.size)).due + 1 ≡ x.interval
+    → after_write (registers x) line ≡ with_row (registers x) (line / x.size) (row_moved x.size (row_at (registers x) (line / x.size))) (x.copies + 1)
+turned_moves x line d = (write_moves (registers x) line d).0

@@ -206,7 +206,7 @@ impl Regions {
     }
 
     /// The line that is at a place below: none at a gap, and none at a place past the regions.
-    #[tactic(auto, using(crate::proofs::Fields::holder_past_all))]
+    #[tactic(auto, using(crate::proofs::Fields::holder_rests))]
     pub(crate) fn holder(&self, place: u16) -> Option<u16>
         ensures { result ≡ gap_holder (registers self.now) place }
     {
@@ -244,6 +244,7 @@ impl Regions {
     }
 
     /// Counts an accepted write to a region, and moves the region where that is due.
+    #[tactic(auto, using(crate::proofs::Fields::turned_counts, crate::proofs::Fields::turned_moves))]
     pub(crate) fn count_write(&mut self, region: u16)
         requires region { region < self.old.count }
         requires copies { self.old.copies + 1 < 2 ^ 32 }
