@@ -1,48 +1,44 @@
 -- What the fields of a layer keep true, and what it means by them. The registers are sound, so places and lines follow the laws of
 -- regions; and copies * interval, with what is due, is taken, so that the life pays for each copy before it is made.
-use Rattle.std.proofs.Common.{◌≡◌, ℕ, ◌+◌, ◌*◌, ◌/◌, ◌<◌, ◌≤◌, List, [], ◌∷◌, length, get_or, set, None, Err, refl, ap, ◌∙◌, subst, add-mul, le-div_iff_mul-le, arith}
-use Rattle.std.proofs.lemmas.List.{length-set}
+use Rattle.std.proofs.Common.{◌≡◌, ℕ, ◌+◌, ◌*◌, ◌/◌, ◌<◌, ◌≤◌, ◌≢◌, List, [], ◌∷◌, length, get_or, None, Ok, Err, refl, ap, ◌∙◌, subst, add-mul, le-div_iff_mul-le, arith}
+use Rattle.std.proofs.lemmas.Bool.Decides.{nat_tests}
 use Rattle.std.proofs.lemmas.List.Sums.{get_or-le-sum_by}
 use Rattle.line.specs.declared.denial.Denial.{Denial}
 use Rattle.startgap.specs.declared.row.Row.{Row}
-use Rattle.startgap.specs.Rows.{row_counted, row_moved}
-use Rattle.startgap.specs.Regions.{Gaps, GapsSound, no_row, row_at, line_count, place_count, gap_place, with_row, total_due}
-use Rattle.startgap.proofs.Rows.{moved_due, moved_sound}
-use Rattle.startgap.proofs.Regions.{place_within}
-use Rattle.startgap.proofs.Writes.{set_every, total_due_set, line_low}
+use Rattle.startgap.specs.Rows.{row_place, row_counted, row_moved}
+use Rattle.startgap.specs.Regions.{Gaps, GapsSound, no_row, row_at, line_count, place_count, gap_place, gap_holder, with_row, after_write, total_due}
+use Rattle.startgap.proofs.Regions.{place_at, place_within, holder_past}
+use Rattle.startgap.proofs.Runs.{write_interval, write_sum}
+use Rattle.startgap.proofs.Writes.{write_counts, write_moves, line_low}
 use Rattle.medium.specs.Array.{Array, fetched, denied_by}
 use Rattle.medium.specs.Law.{left}
 use Rattle.medium.specs.Pile.{gaps, Pile, over, Served}
 use Rattle.medium.specs.declared.call.Call.TheVariants.{Read, Write}
 use Rattle.medium.proofs.Arrays.{accepts_read, accepts_write, fetched_by}
-use Rattle.medium.proofs.Layers.{placed_in, placed_at, fetched_same, paid_below, asked_read, layer_accepted}
+use Rattle.medium.proofs.Layers.{placed_in, placed_at, placed_length, placed_empty, fetched_same, paid_below, asked_read, layer_accepted}
 use Rattle.gap.specs.declared.layer.GapLayer.{GapLayer}
-use Rattle.gap.specs.Fields.{registers_of}
-use Rattle.gap.specs.Regions.{gap_lines, gap_life, gap_array}
+use Rattle.gap.specs.declared.regions.Regions.{Regions}
+use Rattle.gap.specs.Regions.{gap_lines, gap_life, gap_array, place_answer}
+use Rattle.gap.specs.Registers.{registers}
 
 -- what the fields of a layer say
 pub record Held (g : Gaps) (taken life : ℕ) : Type 0 where
   pub within : taken ≤ life
-  pub sized : 0 < g.size
-  pub enough : g.regions ≤ length g.rows
-  pub starts : (k : ℕ) → (get_or g.rows k no_row).start < g.size
-  pub holes : (k : ℕ) → (get_or g.rows k no_row).gap ≤ g.size
-  pub dues : (k : ℕ) → (get_or g.rows k no_row).due < g.interval
+  pub sound : GapsSound g
   pub counted : g.copies * g.interval + total_due g.rows ≡ taken
 
-pub held_sound : (g : Gaps) (taken life : ℕ) → Held g taken life → GapsSound g
-held_sound g taken life held =
+pub sound_of : (x : Regions) → GapsSound (registers x)
+sound_of x =
     record {
-      sized = held.sized;
-      paced = let d = held.dues 0 in omega arith;
-      enough = held.enough;
-      rows = λ region h. (held.starts region, held.holes region);
-      dues = λ region h. held.dues region;
+      sized = x.sized;
+      paced = x.paced;
+      enough = x.enough;
+      rows = λ region h. (x.starts region, x.holes region);
+      dues = λ region h. x.dues region;
     }
 
-pub fields : {M : Type 0} (x : GapLayer M) → Held (registers_of x) x.taken x.life
-fields x =
-    record { within = x.within; sized = x.sized; enough = x.enough; starts = x.starts; holes = x.holes; dues = x.dues; counted = x.counted }
+pub fields : {M : Type 0} (x : GapLayer M) → Held (registers x.regions) x.taken x.life
+fields x = record { within = x.within; sound = sound_of x.regions; counted = x.counted }
 
 -- what the life still pays for, before a write and before a move
 pays_one : (life taken copies interval due : ℕ) → 0 < interval → copies * interval + due ≡ taken → taken < life → copies ≤ life / interval
@@ -60,29 +56,64 @@ fetched_never (x ∷ xs) i e h q =
     let z : ◌≡◌ {A = ℕ} 0 1 = cc in
     omega arith
 
-module _ {A : Type 0} (g : Gaps) (life taken : ℕ) (held : Held g taken life) (b : Array A) where
-  sound : GapsSound g
-  sound = held_sound g taken life held
+-- ---- what the answer on a place says
+pub placed : (g : Gaps) (n line p : ℕ) → Ok p ≡ place_answer g n line → (line < n) × (p ≡ gap_place g line)
+placed g n line p e = grind (arith, nat_tests)
 
-  pub line_there : (i : ℕ) → i < length (gap_lines g b.lines) → (i < line_count g) × (place_count g ≤ length b.lines)
-  line_there i h = placed_in (line_count g) (place_count g) (gap_place g) (place_within g sound) b.lines i h
+pub not_placed : (g : Gaps) (n line : ℕ) (d : Denial) → Err d ≡ place_answer g n line → n ≤ line
+not_placed g n line d e = grind (arith, nat_tests)
 
-  pub place_there : (i : ℕ) → i < length (gap_lines g b.lines) → gap_place g i < length b.lines
-  place_there i h = let k = line_there i h in let l = place_within g sound i k.0 in let m = k.1 in omega arith
+-- ---- places, over the lines ls
+module _ {A : Type 0} (g : Gaps) (s : GapsSound g) (ls : List A) where
+  pub line_there : (i : ℕ) → i < length (gap_lines g ls) → (i < line_count g) × (place_count g ≤ length ls)
+  line_there i h = placed_in (line_count g) (place_count g) (gap_place g) (place_within g s) ls i h
 
-  pub read_line : (i p : ℕ) → i < length (gap_lines g b.lines) → p ≡ gap_place g i → fetched b.lines p ≡ fetched (gap_lines g b.lines) i
+  pub place_there : (i : ℕ) → i < length (gap_lines g ls) → gap_place g i < length ls
+  place_there i h = let k = line_there i h in let l = place_within g s i k.0 in let m = k.1 in omega arith
+
+  pub read_line : (i p : ℕ) → i < length (gap_lines g ls) → p ≡ gap_place g i → fetched ls p ≡ fetched (gap_lines g ls) i
   read_line i p h e =
       let k = line_there i h in
-      ap (λ x. fetched b.lines x) e
-      ∙ fetched_same (gap_lines g b.lines) b.lines i (gap_place g i) h (place_there i h)
-      (λ d. placed_at (line_count g) (place_count g) (gap_place g) (place_within g sound) b.lines i d k.1 k.0)
+      ap (λ x. fetched ls x) e
+      ∙ fetched_same (gap_lines g ls) ls i (gap_place g i) h (place_there i h)
+      (λ d. placed_at (line_count g) (place_count g) (gap_place g) (place_within g s) ls i d k.1 k.0)
 
-  pub read_served : (u : ℕ) (t : Pile A) (i p : ℕ) → i < length (gap_lines g b.lines) → p ≡ gap_place g i → Served t b u (Read p ∷ []) t u
-      → Served (over (gaps g) b u t) (gap_array g life taken b) u (Read i ∷ []) (over (gaps g) b u t) u
-  read_served u t i p h e s =
-      layer_accepted (gaps g) (gaps g) b b u u t t (gap_array g life taken b) (Read i) (accepts_read _ i h) refl
-      (asked_read b u t (gap_place g i) (place_there i h) (subst (λ x. Served t b u (Read x ∷ []) t u) e s))
+-- a read over what means the array b, is served
+pub read_served : {A : Type 0} (g : Gaps) (s : GapsSound g) (b : Array A) (life taken u : ℕ) (t : Pile A) (i p : ℕ)
+    → i < length (gap_lines g b.lines) → p ≡ gap_place g i → Served t b u (Read p ∷ []) t u
+    → Served (over (gaps g) b u t) (gap_array g life taken b) u (Read i ∷ []) (over (gaps g) b u t) u
+read_served g s b life taken u t i p h e served =
+    layer_accepted (gaps g) (gaps g) b b u u t t (gap_array g life taken b) (Read i) (accepts_read _ i h) refl
+    (asked_read b u t (gap_place g i) (place_there g s b.lines i h) (subst (λ x. Served t b u (Read x ∷ []) t u) e served))
 
+-- of the registers that a layer holds: how many lines are there, by what lies below
+pub line_total : {A : Type 0} (x : Regions) (ls : List A) → place_count (registers x) ≤ length ls
+    → length (gap_lines (registers x) ls) ≡ line_count (registers x)
+line_total x ls h =
+    let g = registers x in placed_length (line_count g) (place_count g) (gap_place g) (place_within g (sound_of x)) ls h
+
+pub line_none : {A : Type 0} (x : Regions) (ls : List A) → length ls < place_count (registers x) → length (gap_lines (registers x) ls) ≡ 0
+line_none x ls h =
+    let g = registers x in placed_empty (line_count g) (place_count g) (gap_place g) (place_within g (sound_of x)) ls h
+
+-- where a line is, and which places hold none
+pub place_in : (x : Regions) (region offset : ℕ) → offset < x.size
+    → gap_place (registers x) (region * x.size + offset) ≡ region * (x.size + 1) + row_place x.size (row_at (registers x) region) offset
+place_in x region offset h = place_at (registers x) region offset h
+
+pub holder_rests : (x : Regions) (place : ℕ) → place_count (registers x) ≤ place → gap_holder (registers x) place ≡ None
+holder_rests x place h = holder_past (registers x) place h
+
+-- a line that is there is one of the regions', and is read at its place
+pub line_below : {A : Type 0} (x : Regions) (ls : List A) (i : ℕ) → i < length (gap_lines (registers x) ls) → i < line_count (registers x)
+line_below x ls i h = (line_there (registers x) (sound_of x) ls i h).0
+
+pub line_read : {A : Type 0} (x : Regions) (ls : List A) (i p : ℕ) → i < length (gap_lines (registers x) ls) → p ≡ gap_place (registers x) i
+    → fetched ls p ≡ fetched (gap_lines (registers x) ls) i
+line_read x ls i p h e = read_line (registers x) (sound_of x) ls i p h e
+
+-- ---- what the life pays for
+module _ {A : Type 0} (g : Gaps) (life taken : ℕ) (held : Held g taken life) (b : Array A) where
   -- what is left below pays for a write
   pub write_paid : taken < gap_life g life taken (left b)
       → (taken < life) × (life + life / g.interval ≤ taken + g.copies + left b) × (g.copies ≤ life / g.interval)
@@ -90,12 +121,12 @@ module _ {A : Type 0} (g : Gaps) (life taken : ℕ) (held : Held g taken life) (
       let m = paid_below life taken (life + life / g.interval) (taken + g.copies + left b) k in
       let e = m.1 in
       let tl : taken < life = omega arith in
-      (tl, m.0, pays_one life taken g.copies g.interval (total_due g.rows) sound.paced held.counted tl)
+      (tl, m.0, pays_one life taken g.copies g.interval (total_due g.rows) held.sound.paced held.counted tl)
 
   pub write_accepted : (i p : ℕ) (v : A) → i < length (gap_lines g b.lines) → taken < gap_life g life taken (left b) → p ≡ gap_place g i
       → denied_by b (Write p v) ≡ None
   write_accepted i p v h k e =
-      let q = place_there i h in
+      let q = place_there g held.sound b.lines i h in
       let l = write_paid k in
       let l0 = l.0 in
       let l1 = l.1 in
@@ -107,54 +138,24 @@ module _ {A : Type 0} (g : Gaps) (life taken : ℕ) (held : Held g taken life) (
       → g.copies + 1 ≤ life / g.interval
   move_paid i h k d =
       let l = write_paid k in
-      let low = line_low g sound i (line_there i h).0 in
-      pays_two life taken g.copies g.interval (total_due g.rows) (row_at g (i / g.size)).due sound.paced held.counted
+      let low = line_low g held.sound i (line_there g held.sound b.lines i h).0 in
+      pays_two life taken g.copies g.interval (total_due g.rows) (row_at g (i / g.size)).due held.sound.paced held.counted
       (get_or-le-sum_by (λ (w : Row). w.due) g.rows (i / g.size) no_row low) d l.0
 
--- ---- what the fields say afterwards
-module _ (g : Gaps) (life taken : ℕ) (held : Held g taken life) (i : ℕ) (h : i < line_count g) (k : taken < life) where
-  here : i / g.size < length g.rows
-  here = line_low g (held_sound g taken life held) i h
+-- ---- after an accepted write: the copies made, times interval, with what is due, are one more
+pub counted_after : (g g' : Gaps) (life taken i : ℕ) → Held g taken life → i < line_count g → g' ≡ after_write g i
+    → g'.copies * g'.interval + total_due g'.rows ≡ taken + 1
+counted_after g g' life taken i held h e =
+    ap (λ (y : Gaps). y.copies * y.interval + total_due y.rows) e
+    ∙ ap (λ n. (after_write g i).copies * n + total_due (after_write g i).rows) (write_interval g i)
+    ∙ write_sum g held.sound i h
+    ∙ ap (λ n. n + 1) held.counted
 
-  -- the registers with another row, in its ranges, and another count of copies
-  held_row : (w : Row) (n : ℕ) → w.start < g.size → w.gap ≤ g.size → w.due < g.interval
-      → n * g.interval + total_due (set g.rows (i / g.size) w) ≡ taken + 1
-      → Held (with_row g (i / g.size) w n) (taken + 1) life
-  held_row w n a b d e =
-      record {
-        within = omega arith;
-        sized = held.sized;
-        enough = let m = held.enough in let l = length-set g.rows (i / g.size) w in omega arith;
-        starts = set_every (λ (y : Row). y.start < g.size) g.rows (i / g.size) w held.starts a;
-        holes = set_every (λ (y : Row). y.gap ≤ g.size) g.rows (i / g.size) w held.holes b;
-        dues = set_every (λ (y : Row). y.due < g.interval) g.rows (i / g.size) w held.dues d;
-        counted = e;
-      }
+-- ---- the registers after a write
+pub turned_counts : (x : Regions) (line : ℕ) → (row_at (registers x) (line / x.size)).due + 1 ≢ x.interval
+    → after_write (registers x) line ≡ with_row (registers x) (line / x.size) (row_counted (row_at (registers x) (line / x.size))) x.copies
+turned_counts x line ne = (write_counts (registers x) line ne).0
 
-  pub held_counted : (w : Row) → w ≡ row_counted (row_at g (i / g.size)) → ((row_at g (i / g.size)).due + 1 ≡ g.interval → ⊥)
-      → Held (with_row g (i / g.size) w g.copies) (taken + 1) life
-  held_counted w ew d =
-      let ed : w.due ≡ (row_at g (i / g.size)).due + 1 = ap (λ (y : Row). y.due) ew in
-      let es : w.start ≡ (row_at g (i / g.size)).start = ap (λ (y : Row). y.start) ew in
-      let eg : w.gap ≡ (row_at g (i / g.size)).gap = ap (λ (y : Row). y.gap) ew in
-      let a = held.starts (i / g.size) in
-      let b = held.holes (i / g.size) in
-      let q = held.dues (i / g.size) in
-      let t = total_due_set g (i / g.size) w g.copies here in
-      let s = held.counted in
-      held_row w g.copies (omega arith) (omega arith) (omega (arith, d)) (omega arith)
-
-  pub held_moved : (w : Row) → w ≡ row_moved g.size (row_at g (i / g.size)) → (row_at g (i / g.size)).due + 1 ≡ g.interval
-      → Held (with_row g (i / g.size) w (g.copies + 1)) (taken + 1) life
-  held_moved w ew d =
-      let ok = moved_sound g.size (row_at g (i / g.size)) (held.starts (i / g.size), held.holes (i / g.size)) in
-      let a = ok.0 in
-      let b = ok.1 in
-      let es : w.start ≡ (row_moved g.size (row_at g (i / g.size))).start = ap (λ (y : Row). y.start) ew in
-      let eg : w.gap ≡ (row_moved g.size (row_at g (i / g.size))).gap = ap (λ (y : Row). y.gap) ew in
-      let ed : w.due ≡ 0 = ap (λ (y : Row). y.due) ew ∙ moved_due g.size (row_at g (i / g.size)) in
-      let t = total_due_set g (i / g.size) w (g.copies + 1) here in
-      let m = add-mul g.copies 1 g.interval in
-      let s = held.counted in
-      let z = held.dues 0 in
-      held_row w (g.copies + 1) (omega arith) (omega arith) (omega arith) (omega arith)
+pub turned_moves : (x : Regions) (line : ℕ) → (row_at (registers x) (line / x.size)).due + 1 ≡ x.interval
+    → after_write (registers x) line ≡ with_row (registers x) (line / x.size) (row_moved x.size (row_at (registers x) (line / x.size))) (x.copies + 1)
+turned_moves x line d = (write_moves (registers x) line d).0

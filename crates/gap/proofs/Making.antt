@@ -1,19 +1,18 @@
 -- A new layer. Where each question of the survey is answered yes, the settings are in range, the places lie below, and the life is the
 -- greatest that is paid for; where one is answered no, there are no regions, and so no lines.
-use Rattle.std.proofs.Common.{◌≡◌, ℕ, zero, suc, ◌+◌, ◌*◌, ◌/◌, ◌≤◌, Bool, true, false, cond, leb, List, [], map, length, get_or, replicate, is_err, Ok, Err, Result, sym, refl, ap, ◌∙◌, subst, arith}
+use Rattle.std.proofs.Common.{◌≡◌, ℕ, ◌+◌, ◌*◌, ◌/◌, ◌≤◌, Bool, true, false, cond, leb, List, [], map, length, is_err, Ok, Err, Result, sym, refl, ap, ◌∙◌, subst, arith}
 use Rattle.std.specs.List.{range_with_len}
 use Rattle.line.specs.Denials.{ask, in_range}
 use Rattle.line.specs.declared.denial.Denial.{Denial}
 use Rattle.line.specs.declared.denial.Denial.TheVariants.{LifeOutOfRange, SettingsOutOfRange, TooFewLines}
-use Rattle.startgap.specs.declared.row.Row.{Row}
 use Rattle.startgap.specs.Life.{GreatestLife, life_of}
-use Rattle.startgap.specs.Regions.{Gaps, region_size, new_gaps, no_row}
+use Rattle.startgap.specs.Regions.{Gaps, region_size, new_gaps}
 use Rattle.startgap.proofs.Lives.{greatest_life, life_pays}
 use Rattle.medium.specs.Array.{Array}
 use Rattle.medium.specs.Law.{left, Unfit}
 use Rattle.medium.specs.Pile.{gaps, Pile, over, gathered, placed_lines, paid_life}
 use Rattle.medium.proofs.Layers.{paid_yes}
-use Rattle.gap.specs.Regions.{registers, gap_lines, gap_array, gap_survey, Made}
+use Rattle.gap.specs.Regions.{gap_lines, gap_life, gap_array, gap_survey, Made}
 
 -- ---- the survey
 asked_yes : (t : Bool) (d : Denial) (rest : Result (Unit {0}) Denial) → is_err (ask t d rest) ≡ false → (t ≡ true) × (is_err rest ≡ false)
@@ -64,24 +63,19 @@ no_not_yes s h e = cc (ap is_err e)
 pub surveyed : (R I n n' l l' : ℕ) → n ≡ n' → l ≡ l' → gap_survey R I n l ≡ gap_survey R I n' l'
 surveyed R I n n' l l' en el = ap (λ x. gap_survey R I x l) en ∙ ap (λ x. gap_survey R I n' x) el
 
--- ---- rows that are all alike
-pub each_row : (P : Row → Type 0) (w : Row) → P w → P no_row → (n k : ℕ) → P (get_or (replicate n w) k no_row)
-each_row P w p q zero k = q
-each_row P w p q (suc n) zero = p
-each_row P w p q (suc n) (suc k) = each_row P w p q n k
-
 -- ---- a layer that fits
-pub new_made : {A : Type 0} (b : Array A) (u : ℕ) (t : Pile A) (R I n l d : ℕ) → n ≡ length b.lines → l ≡ left b → Yes R I n l → d ≡ life_of l I
-    → Made (new_gaps R (region_size (length b.lines) R) I) (gap_array (new_gaps R (region_size n R) I) d 0 b) u
-    (over (gaps (new_gaps R (region_size n R) I)) b u t) b u t
-new_made {A} b u t R I n l d en el y ed =
-    let same : new_gaps R (region_size n R) I ≡ new_gaps R (region_size (length b.lines) R) I = ap (λ m. new_gaps R (region_size m R) I) en in
+pub new_made : {A : Type 0} (b : Array A) (u : ℕ) (t : Pile A) (R I n l d : ℕ) (g : Gaps) → n ≡ length b.lines → l ≡ left b → Yes R I n l
+    → d ≡ life_of l I → g ≡ new_gaps R (region_size n R) I
+    → Made (new_gaps R (region_size (length b.lines) R) I) (gap_array g d 0 b) u (over (gaps g) b u t) b u t
+new_made {A} b u t R I n l d g en el y ed eg =
+    let same : g ≡ new_gaps R (region_size (length b.lines) R) I = eg ∙ ap (λ m. new_gaps R (region_size m R) I) en in
     let is : d ≡ life_of (left b) I = ed ∙ ap (λ m. life_of m I) el in
     let pays = life_pays (left b) I y.paced in
     let pays_d : d + d / I ≤ left b = subst (λ m. m + m / I ≤ left b) (sym is) pays in
     let lives = y.lives in
     let wide = y.wide in
-    let life_is : paid_life d 0 (d + d / I) (0 + 0 + left b) ≡ d = paid_yes d 0 (d + d / I) (0 + 0 + left b) (omega arith) in
+    let life_is : gap_life g d 0 (left b) ≡ d =
+    ap (λ (h : Gaps). gap_life h d 0 (left b)) same ∙ paid_yes d 0 (d + d / I) (0 + 0 + left b) (omega arith) in
     record {
       new =
           record {
@@ -91,14 +85,14 @@ new_made {A} b u t R I n l d en el y ed =
             short = y.short;
             wide = omega arith;
             new = refl;
-            lines = ap (λ (g : Gaps). gap_lines g b.lines) same;
+            lines = ap (λ (h : Gaps). gap_lines h b.lines) same;
             taken = refl;
             life = subst (GreatestLife (left b) I) (sym (life_is ∙ is)) (greatest_life (left b) I y.paced);
             lives = omega arith;
           };
       taken = refl;
       wear = refl;
-      pile = ap (λ (g : Gaps). over (gaps g) b u t) same;
+      pile = ap (λ (h : Gaps). over (gaps h) b u t) same;
     }
 
 -- ---- one that does not
@@ -111,8 +105,8 @@ pub none_paid : (cost left_below : ℕ) → paid_life 0 0 cost left_below ≡ 0
 unfolding paid_life
 none_paid cost left_below = elim (leb cost left_below) as (λ b. ◌≡◌ {A = ℕ} (cond b 0 0) 0) [ true ↦ refl | false ↦ refl ]
 
-pub unfit_array : {A : Type 0} (rows : List Row) (b : Array A) → Unfit (gap_array (registers 0 1 1 rows 0) 0 0 b)
-unfit_array {A} rows b = same_array _ _ (none_placed _ b.lines) (none_paid _ _)
+pub unfit_array : {A : Type 0} (b : Array A) → Unfit (gap_array (new_gaps 0 1 1) 0 0 b)
+unfit_array {A} b = same_array _ _ (none_placed _ b.lines) (none_paid _ _)
   where
     same_array : (ls : List A) (d : ℕ) → ls ≡ [] → d ≡ 0 → ◌≡◌ {A = Array A} (record { lines = ls; taken = 0; life = d }) (record { lines = []; taken = 0; life = 0 })
     same_array ls d e f = ap (λ x. record { lines = x; taken = 0; life = d }) e ∙ ap (λ x. record { lines = []; taken = 0; life = x }) f

@@ -1,19 +1,13 @@
--- A layer of gap regions: its registers by its fields, what it means over what lies below, and what its calls answer. Assumes nothing.
+-- A layer of gap regions, by its registers: what it means over what lies below, and what its calls answer. Assumes nothing.
 use Rattle.std.specs.Prelude.{◌≡◌, ℕ, ◌+◌, ◌*◌, ◌/◌, cond, List, Ok, Err, Option, Result, nat_le, nat_lt}
 use Rattle.line.specs.Denials.{ask, in_range}
 use Rattle.line.specs.declared.denial.Denial.{Denial}
 use Rattle.line.specs.declared.denial.Denial.TheVariants.{NoSuchLine, LifeOutOfRange, SettingsOutOfRange, TooFewLines}
-use Rattle.startgap.specs.declared.row.Row.{Row}
 use Rattle.startgap.specs.Life.{life_of}
 use Rattle.startgap.specs.Regions.{Gaps, line_count, place_count, gap_place, gap_holder}
 use Rattle.medium.specs.Array.{Array}
 use Rattle.medium.specs.Law.{left, NewGaps, Unfit}
 use Rattle.medium.specs.Pile.{gaps, Pile, over, placed_lines, paid_life}
-
--- the registers that a layer's fields hold
-abbrev pub registers : ℕ → ℕ → ℕ → List Row → ℕ → Gaps
-registers regions size interval rows copies =
-    record { regions = regions; size = size; interval = interval; rows = rows; copies = copies }
 
 -- ---- what the layer means, over what means the array b
 abbrev pub gap_lines : {A : Type 0} → Gaps → List A → List A

@@ -1,158 +1,152 @@
-//! The layer of gap regions: its fields, and reads and writes through it.
+//! The layer of gap regions.
 
-ghost use Rattle.std.specs.Prelude.{◌≡◌, ℕ, ◌+◌, ◌-◌, ◌*◌, ◌/◌, ◌%◌, ◌^◌, ◌<◌, ◌≤◌, List, [], ◌∷◌, length, Option, slice_index_or};
-ghost use Rattle.startgap.specs.Rows.{row_place, row_line, row_holder, row_from, row_moved, row_counted};
-ghost use Rattle.startgap.specs.Regions.{no_row, total_due, split_line, gap_place};
+ghost use Rattle.std.specs.Prelude.{◌≡◌, ◌+◌, ◌-◌, ◌*◌, ◌/◌, ◌^◌, ◌<◌, ◌≤◌, length, Ok, Err, IfOk};
+ghost use Rattle.line.specs.declared.denial.Denial.{Denial as Denied};
+ghost use Rattle.startgap.specs.Regions.{GapsSound, total_due, new_gaps, region_size};
+ghost use Rattle.medium.specs.Array.{fetched};
 ghost use Rattle.medium.specs.Chain.{LayerEffect};
+ghost use Rattle.medium.specs.Law.{left, Fitted};
 ghost use Rattle.medium.specs.Meaning.{means};
 ghost use Rattle.medium.specs.Pile.{gaps, over};
-ghost use Rattle.gap.specs.Regions.{registers, gap_lines, gap_life};
+ghost use Rattle.gap.specs.Regions.{gap_lines, gap_life, gap_survey, place_answer, holder_answer, Made, MadeUnfit};
+ghost use Rattle.gap.specs.Registers.{registers};
 
+use crate::regions::{Move, Regions};
 use line::denial::Denial;
 use medium::medium::Medium;
-use startgap::row::Row;
-
-pub mod making;
-mod places;
+use startgap::life::life;
 
 /// Regions of lines over a medium, each with one place that holds no line: its gap. After each `interval` writes to a region one of its
 /// lines moves into the gap, so that writes to one line wear all places of the region.
 #[derive(Drop)]
 pub struct GapLayer<M> {
     below: M,
-    rows: [Row; 16],
-    regions: u16,
-    size: u16,
-    interval: u16,
-    // the copies made since the layer was fitted
-    copies: u32,
+    regions: Regions,
     life: u32,
     taken: u32,
-    // the settings are in range, also of a layer that does not fit: it has no regions
     ghost within: { taken ≤ life },
-    ghost few: { regions ≤ 16 },
-    ghost sized: { 0 < size },
-    ghost small: { size ≤ 4096 },
-    ghost inside: { regions * (size + 1) ≤ 4096 },
-    // each region has a row, every row is in range, and no move is overdue
-    ghost enough: { regions ≤ length rows },
-    ghost starts: { (k : ℕ) → (slice_index_or rows k no_row).start < size },
-    ghost holes: { (k : ℕ) → (slice_index_or rows k no_row).gap ≤ size },
-    ghost dues: { (k : ℕ) → (slice_index_or rows k no_row).due < interval },
     // each copy came after `interval` writes
-    ghost counted: { copies * interval + total_due rows ≡ taken },
+    ghost counted: { regions.copies * regions.interval + total_due regions.rows ≡ taken },
 }
 
-// A number by regions of `size`: its region, and its offset there.
-fn split(size: u16, number: u16) -> (u16, u16)
-    requires { 0 < size }
-    ensures { result ≡ split_line size number }
+/// The first no of the questions on a layer of that many regions, which move after each `interval` writes, over that many lines with
+/// `left` writes left: are there 1 to 16 regions, and is the interval at least 1 (else 6)? Are there two lines for each region (else 7)?
+/// Is the life at least 1 (else 4)?
+pub fn survey(regions: u16, interval: u16, count: u16, left: u32) -> Result<(), Denial>
+    ensures { result ≡ gap_survey regions interval count left }
 {
-    (number / size, number % size)
-}
-
-// The place within a region of its line at `offset`.
-fn place_in_row(size: u16, row: Row, offset: u16) -> u16
-    requires { (offset < size) × (size ≤ 4096) × (row.start < size) × (row.gap ≤ size) }
-    ensures answer { result ≡ row_place size row offset }
-    ensures bound { result ≤ size }
-{
-    let rotated = (offset + row.start) % size;
-    if rotated < row.gap {
-        rotated
-    } else {
-        rotated + 1
+    if !(1..=16).contains(&regions) || interval < 1 {
+        return Err(Denial::SettingsOutOfRange);
     }
-}
-
-// The offset of the line at a place of a region, and none at its gap.
-fn holder_in_row(size: u16, row: Row, place: u16) -> Option<u16>
-    requires { (place ≤ size) × (0 < size) × (size ≤ 4096) × (row.start < size) × (row.gap ≤ size) }
-    ensures { result ≡ row_holder size row place }
-{
-    if place == row.gap {
-        return None;
+    if count < 2 * regions {
+        return Err(Denial::TooFewLines);
     }
-    let rotated = if place < row.gap { place } else { place - 1 };
-    Some((rotated + (size - row.start)) % size)
-}
-
-// The place within a region that its next move reads; it writes the gap.
-fn source(size: u16, row: Row) -> u16
-    ensures { result ≡ row_from size row }
-{
-    if row.gap > 0 { row.gap - 1 } else { size }
-}
-
-// Counts a write that makes no move.
-fn count_write(row: &mut Row)
-    requires { row.old.due < 65535 }
-    ensures { row.new ≡ row_counted row.old }
-{
-    row.due += 1;
-}
-
-// Moves the gap of a region of `size` lines to the place that the move reads.
-fn advance(row: &mut Row, size: u16)
-    requires { (0 < size) × (row.old.start < size) }
-    ensures { row.new ≡ row_moved size row.old }
-{
-    if row.gap == 0 {
-        row.start = (row.start + 1) % size;
-        row.gap = size;
-    } else {
-        row.gap -= 1;
+    if life(left, interval) < 1 {
+        return Err(Denial::LifeOutOfRange);
     }
-    row.due = 0;
+    Ok(())
 }
 
 impl<M: Medium> GapLayer<M> {
-    // The place below of a line that there is.
-    fn place(&self, line: u16) -> u16
-        requires { line < self.now.regions * self.now.size }
-        ensures { result ≡ gap_place (registers self.now.regions self.now.size self.now.interval self.now.rows self.now.copies) line }
+    /// A layer of that many regions over `below`, each of which moves after each `interval` writes to it.
+    /// Where the survey says no, it has no lines and life 0.
+    pub fn new(below: M, regions: u16, interval: u16) -> GapLayer<M>
+        ensures kept { result.below ≡ below }
+        ensures fit { gap_survey regions interval (length (M.Medium.lines below)) (left (means M.Medium below)) ≡ Ok tt → Made (new_gaps regions (region_size (length (M.Medium.lines below)) regions) interval) (means ⟦<GapLayer<M> as Medium>⟧ result) (⟦<GapLayer<M> as Medium>⟧.wear result) (⟦<GapLayer<M> as Medium>⟧.pile result) (means M.Medium below) (M.Medium.wear below) (M.Medium.pile below) }
+        ensures unfit { (d : Denied) → gap_survey regions interval (length (M.Medium.lines below)) (left (means M.Medium below)) ≡ Err d → MadeUnfit (registers result.regions) (means ⟦<GapLayer<M> as Medium>⟧ result) (⟦<GapLayer<M> as Medium>⟧.wear result) (⟦<GapLayer<M> as Medium>⟧.pile result) (means M.Medium below) (M.Medium.wear below) (M.Medium.pile below) }
+        ensures fitted { Fitted (means M.Medium below) (M.Medium.wear below) (M.Medium.pile below) → Fitted (means ⟦<GapLayer<M> as Medium>⟧ result) (⟦<GapLayer<M> as Medium>⟧.wear result) (⟦<GapLayer<M> as Medium>⟧.pile result) }
     {
-        let (region, offset) = split(self.size, line);
-        let row = self.rows[region as usize];
-        region * (self.size + 1) + place_in_row(self.size, row, offset)
+        let count = below.count();
+        let left = below.life() - below.taken();
+        if survey(regions, interval, count, left).is_err() {
+            return GapLayer {
+                below,
+                regions: Regions::none(),
+                life: 0,
+                taken: 0,
+            };
+        }
+        GapLayer {
+            below,
+            regions: Regions::new(regions, count / regions - 1, interval),
+            life: life(left, interval),
+            taken: 0,
+        }
+    }
+
+    /// The place below of a line. A number not below the layer's count is denied with 1.
+    #[tactic(auto, using(crate::proofs::Fields::sound_of, crate::proofs::Fields::line_below, crate::proofs::Fields::line_read))]
+    pub fn where_is(&self, line: u16) -> Result<u16, Denial>
+        ensures answer { result ≡ place_answer (registers self.now.regions) (length (⟦<GapLayer<M> as Medium>⟧.lines self.now)) line }
+        ensures content { IfOk result (λ p. fetched (M.Medium.lines self.now.below) p ≡ fetched (⟦<GapLayer<M> as Medium>⟧.lines self.now) line) }
+        ensures sound { GapsSound (registers self.now.regions) }
+    {
+        if line >= self.count() {
+            return Err(Denial::NoSuchLine);
+        }
+        let (region, offset) = self.regions.split(line);
+        Ok(self.regions.place(region, offset))
+    }
+
+    /// The line that is at a place below: none at a gap, and none at a place past the regions.
+    /// A number not below the count of the medium below is denied with 1.
+    #[tactic(auto, using(crate::proofs::Fields::sound_of))]
+    pub fn holder(&self, place: u16) -> Result<Option<u16>, Denial>
+        ensures answer { result ≡ holder_answer (registers self.now.regions) (length (M.Medium.lines self.now.below)) place }
+        ensures sound { GapsSound (registers self.now.regions) }
+    {
+        if place >= self.below.count() {
+            return Err(Denial::NoSuchLine);
+        }
+        Ok(self.regions.holder(place))
+    }
+
+    /// How many copies the layer has made itself since it was fitted.
+    pub fn copies(&self) -> u32
+        ensures answer { result ≡ (registers self.now.regions).copies }
+    {
+        self.regions.copies()
     }
 }
 
 impl<M: Medium> Medium for GapLayer<M> {
     type Line = M::Line;
 
-    ghost lines = { λ x. gap_lines (registers x.regions x.size x.interval x.rows x.copies) (M.Medium.lines x.below) };
+    ghost lines = { λ x. gap_lines (registers x.regions) (M.Medium.lines x.below) };
 
     ghost taken = { λ x. x.taken };
 
-    ghost life = { λ x. gap_life (registers x.regions x.size x.interval x.rows x.copies) x.life x.taken (M.Medium.life x.below - M.Medium.taken x.below) };
+    ghost life = { λ x. gap_life (registers x.regions) x.life x.taken (M.Medium.life x.below - M.Medium.taken x.below) };
 
     ghost wear = { λ x. M.Medium.wear x.below };
 
-    ghost pile = { λ x. over (gaps (registers x.regions x.size x.interval x.rows x.copies)) (means M.Medium x.below) (M.Medium.wear x.below) (M.Medium.pile x.below) };
+    ghost pile = { λ x. over (gaps (registers x.regions)) (means M.Medium x.below) (M.Medium.wear x.below) (M.Medium.pile x.below) };
 
     ghost memory = { λ x. M.Medium.memory x.below };
 
-    ghost effect = { λ x i v r y. LayerEffect M.Medium x y x.below y.below (gaps (registers x.regions x.size x.interval x.rows x.copies)) (gap_lines (registers x.regions x.size x.interval x.rows x.copies) (M.Medium.lines x.below)) i v r };
+    ghost effect = { λ x i v r y. LayerEffect M.Medium x y x.below y.below (gaps (registers x.regions)) (gap_lines (registers x.regions) (M.Medium.lines x.below)) i v r };
 
+    #[tactic(auto, using(crate::proofs::Fields::line_total, crate::proofs::Fields::line_none))]
     fn count(&self) -> u16 {
-        if self.regions * (self.size + 1) <= self.below.count() {
-            self.regions * self.size
+        if self.regions.place_count() <= self.below.count() {
+            self.regions.line_count()
         } else {
             0
         }
     }
 
+    #[tactic(auto, unfolding(medium::specs::Pile::paid_life))]
     fn life(&self) -> u32 {
         let left = self.below.life() - self.below.taken();
-        let cost = self.life as u64 + (self.life / self.interval as u32) as u64;
-        if cost <= self.taken as u64 + self.copies as u64 + left as u64 {
+        let cost = self.life as u64 + self.regions.copies_after(self.life) as u64;
+        if cost <= self.taken as u64 + self.regions.copies() as u64 + left as u64 {
             self.life
         } else {
             self.taken
         }
     }
 
+    #[tactic(auto, unfolding(medium::specs::Pile::paid_life))]
     fn taken(&self) -> u32 {
         self.taken
     }
@@ -162,13 +156,11 @@ impl<M: Medium> Medium for GapLayer<M> {
     }
 
     fn read(&self, line: u16) -> Result<M::Line, Denial> {
-        if line >= self.count() {
-            return Err(Denial::NoSuchLine);
-        }
-        let place = self.place(line);
+        let place = self.where_is(line)?;
         self.below.read(place)
     }
 
+    #[tactic(auto, using(crate::proofs::Fields::line_below))]
     fn write(&mut self, line: u16, value: M::Line) -> Result<u64, Denial> {
         if line >= (*self).count() {
             return Err(Denial::NoSuchLine);
@@ -176,22 +168,17 @@ impl<M: Medium> Medium for GapLayer<M> {
         if self.taken >= (*self).life() {
             return Err(Denial::LifeUsed);
         }
-        let place = self.place(line);
-        let region = line / self.size;
-        let row = self.rows[region as usize];
+        let (region, offset) = self.regions.split(line);
+        let place = self.regions.place(region, offset);
         let toll = self.below.write(place, value)?;
-        if row.due + 1 != self.interval {
-            count_write(&mut self.rows[region as usize]);
-            self.taken += 1;
-            return Ok(toll);
-        }
-        let first = region * (self.size + 1);
-        let from = first + source(self.size, row);
-        let to = first + row.gap;
-        let moved = self.below.read(from)?;
-        let more = self.below.write(to, moved)?;
-        advance(&mut self.rows[region as usize], self.size);
-        self.copies += 1;
+        let more = match self.regions.due_move(region) {
+            Some(Move { from, to }) => {
+                let moved = self.below.read(from)?;
+                self.below.write(to, moved)?
+            }
+            None => 0,
+        };
+        self.regions.count_write(region);
         self.taken += 1;
         Ok(toll.wrapping_add(more))
     }
