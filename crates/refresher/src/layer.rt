@@ -17,10 +17,13 @@ pub struct RefreshLayer<M> {
     below: M,
     registers: Registers,
     life: u32,
+    // what the life costs below, with all the copies that it may bring
+    cost: u32,
     taken: u32,
     ghost within: { taken ≤ life },
     ghost counted: { registers.due ≡ taken % registers.interval },
     ghost bounded: { Bounded registers.round registers.copies (taken / registers.interval) },
+    ghost costs: { cost ≡ life + life / registers.interval + registers.size / 2 },
     ghost room: { life + life / registers.interval + registers.size / 2 ≤ 4294967295 },
 }
 
@@ -66,15 +69,19 @@ impl<M: Medium> RefreshLayer<M> {
                 below,
                 registers: Registers::unfit(),
                 life: 0,
+                cost: 0,
                 taken: 0,
             };
         }
         let size = size_for(count);
         let life = life_for(left, size, interval);
+        let registers = Registers::new(size, interval, ring);
+        let cost = registers.cost(life);
         RefreshLayer {
             below,
-            registers: Registers::new(size, interval, ring),
+            registers,
             life,
+            cost,
             taken: 0,
         }
     }
@@ -132,10 +139,10 @@ impl<M: Medium> Medium for RefreshLayer<M> {
         if size <= self.below.count() { size } else { 0 }
     }
 
+    #[tactic(auto, using(medium::proofs::Layers::paid_yes, medium::proofs::Layers::paid_no))]
     fn life(&self) -> u32 {
         let left = (self.below.life() - self.below.taken()) as u64;
-        let cost = self.registers.cost(self.life);
-        if cost as u64 <= self.taken as u64 + self.registers.copies() as u64 + left {
+        if self.cost as u64 <= self.taken as u64 + self.registers.copies() as u64 + left {
             self.life
         } else {
             self.taken

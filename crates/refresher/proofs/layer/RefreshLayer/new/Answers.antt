@@ -18,31 +18,23 @@ asked_of : {A : Type 0} (b : Array A) (ring interval count room : ℕ) (s : Resu
 asked_of b ring interval count room s es ec er =
     es ∙ ap (λ n. refresh_survey ring interval n room) ec ∙ ap (λ r. refresh_survey ring interval (length b.lines) r) er
 
-pub returns-then-is_err : goal.returns-then-is_err
-returns-then-is_err g c =
-    let ring = c.args.ring.now in
-    let b = means g.M.Medium c.args.below in
-    let el = c.life.ensures.answer in
-    let et = c.taken.ensures.answer in
-    let es = asked_of b (length ring) c.args.interval _ (c.life.result - c.taken.result) _ c.survey.ensures.answer c.count-count.ensures.answer (omega arith) in
-    let no : is_err (refresh_survey (length ring) c.args.interval (length b.lines) (left b)) ≡ true =
-    sym (ap is_err es) ∙ sym c.is_err.ensures.value ∙ c.if-is_err.true in
-    let made = layer_unfit b (registers c.unfit.result) (g.M.Medium.wear c.args.below) (g.M.Medium.pile c.args.below) c.unfit.ensures.none c.unfit.ensures.copies in
-    record {
-      kept = refl;
-      fit = λ e. absurd (denied_not_ok _ no e);
-      unfit = λ d e. made;
-      fitted = fitted_none _ b _ _ _ _ _ made.pile made.none made.wear;
-    }
+pub returns-then-is_err-clause-unfit : goal.returns-then-is_err-clause-unfit
+returns-then-is_err-clause-unfit g c = λ d e. layer_unfit _ (registers c.unfit.result) _ _ c.unfit.ensures.none c.unfit.ensures.copies
 
-pub new-requires-clause-few : goal.new-requires-clause-few
-new-requires-clause-few g c =
+pub returns-then-is_err-clause-fitted : goal.returns-then-is_err-clause-fitted
+returns-then-is_err-clause-fitted g c =
+    let b = means g.M.Medium c.args.below in
+    let made = layer_unfit b (registers c.unfit.result) (g.M.Medium.wear c.args.below) (g.M.Medium.pile c.args.below) c.unfit.ensures.none c.unfit.ensures.copies in
+    fitted_none _ b _ _ _ _ _ made.pile made.none made.wear
+
+pub new-registers-requires-clause-few : goal.new-registers-requires-clause-few
+new-registers-requires-clause-few g c =
     let e = c.size_for-size.ensures.value in
     let few = size_few _ c.count-count.ensures.bound in
     omega arith
 
-pub new-requires-clause-power : goal.new-requires-clause-power
-new-requires-clause-power g c =
+pub new-registers-requires-clause-power : goal.new-registers-requires-clause-power
+new-registers-requires-clause-power g c =
     let e = c.size_for-size.ensures.value in
     e ∙ size_again _ c.count-count.ensures.bound ∙ ap greatest_power (sym e)
 
@@ -63,7 +55,7 @@ returns g c =
     let size_is : c.size_for-size.result ≡ greatest_power (length b.lines) = c.size_for-size.ensures.value ∙ ap greatest_power en in
     let life_is : c.life_for-life.result ≡ life_of I c.size_for-size.result (left b) =
     c.life_for-life.ensures.value ∙ ap (λ r. life_of I c.size_for-size.result r) er in
-    let made = layer_made b (registers c.new.result) c.size_for-size.result I c.life_for-life.result ring (g.M.Medium.wear c.args.below) (g.M.Medium.pile c.args.below) (omega arith) (omega arith) fits c.new.ensures.new size_is life_is in
+    let made = layer_made b (registers c.new-registers.result) c.size_for-size.result I c.life_for-life.result ring (g.M.Medium.wear c.args.below) (g.M.Medium.pile c.args.below) (omega arith) (omega arith) fits c.new-registers.ensures.new size_is life_is in
     record {
       kept = refl;
       fit = λ e. made;

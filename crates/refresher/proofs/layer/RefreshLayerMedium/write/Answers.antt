@@ -10,11 +10,17 @@ use Rattle.refresher.proofs.Written.{fetched_never, exchange_some, ready_of, rea
 use Rattle.refresher.proofs.layer.RefreshLayerMedium.write.Goals as goal
 use Rattle.refresher.proofs.layer.RefreshLayerMedium.write.Goals.{in-None, in-Some+in_ok-mated-in-Some+in_ok-moved-in-Some+in_ok-first-in-Some+in_ok-second-in-Some}
 
-pub returns-then-line-count : goal.returns-then-line-count
-returns-then-line-count g c = record { answer = wrote_denied _ _ _ _ _ _ _ (denies_line _ _ _ (omega arith)) refl refl; below = layer_denied _ _ _ _ _ _ _ _ (denies_line _ _ _ (omega arith)); memory = refl; effect = refl }
+pub returns-then-line-count-clause-answer : goal.returns-then-line-count-clause-answer
+returns-then-line-count-clause-answer g c = wrote_denied _ _ _ _ _ _ _ (denies_line _ _ _ (omega arith)) refl refl
 
-pub returns-then-self-life : goal.returns-then-self-life
-returns-then-self-life g c = record { answer = wrote_denied _ _ _ _ _ _ _ (denies_life _ _ _ (omega arith) (omega arith)) refl refl; below = layer_denied _ _ _ _ _ _ _ _ (denies_life _ _ _ (omega arith) (omega arith)); memory = refl; effect = refl }
+pub returns-then-line-count-clause-below : goal.returns-then-line-count-clause-below
+returns-then-line-count-clause-below g c = layer_denied _ _ _ _ _ _ _ _ (denies_line _ _ _ (omega arith))
+
+pub returns-then-self-life-clause-answer : goal.returns-then-self-life-clause-answer
+returns-then-self-life-clause-answer g c = wrote_denied _ _ _ _ _ _ _ (denies_life _ _ _ (omega arith) (omega arith)) refl refl
+
+pub returns-then-self-life-clause-below : goal.returns-then-self-life-clause-below
+returns-then-self-life-clause-below g c = layer_denied _ _ _ _ _ _ _ _ (denies_life _ _ _ (omega arith) (omega arith))
 
 pub returns-in_err-toll : goal.returns-in_err-toll
 returns-in_err-toll g c =
@@ -67,6 +73,7 @@ invariant_of-self-2 g c =
       within = h.within;
       counted = h.counted;
       bounded = h.bounded;
+      costs = rw (size, interval) x.costs;
       room = rw (size, interval) x.room;
     }
 
