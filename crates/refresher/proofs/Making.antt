@@ -1,8 +1,7 @@
 -- The making of the layer. Where the survey says yes, the settings are in range, the size is the greatest power of two and the life is the
 -- greatest that is paid; the table's first keys are the ring, so the registers are new ones, and no copy has been made yet. An unfit layer
 -- has size 0 and so no lines.
-use Rattle.std.proofs.Common.{◌≡◌, ℕ, ◌+◌, ◌/◌, ◌%◌, ◌<◌, ◌≤◌, true, false, cond, leb, List, [], length, get_or, take, is_err, Ok, Err, Result, sym, refl, ap, ◌∙◌, subst, ⊎_elim, arith}
-use Rattle.std.proofs.lemmas.List.{get_or-take}
+use Rattle.std.proofs.Common.{◌≡◌, ℕ, ◌+◌, ◌/◌, ◌<◌, ◌≤◌, true, false, cond, leb, List, [], length, is_err, Ok, Result, sym, refl, ap, ◌∙◌, subst, ⊎_elim, arith}
 use Rattle.std.proofs.lemmas.Bool.{cases_lt}
 use Rattle.line.specs.declared.denial.Denial.{Denial}
 use Rattle.line.specs.declared.denial.Denial.TheVariants.{LifeOutOfRange, SettingsOutOfRange, TooFewLines}
@@ -16,7 +15,7 @@ use Rattle.refresh.proofs.Lives.{life_greatest}
 use Rattle.refresh.proofs.Powers.{greatest_computed, greatest_only}
 use Rattle.refresh.proofs.Quotients.{quotient_small}
 use Rattle.medium.specs.Array.{Array}
-use Rattle.medium.specs.Law.{left, NewRefresh}
+use Rattle.medium.specs.Law.{left}
 use Rattle.medium.specs.Pile.{refresh, Pile, over, placed_lines, paid_life}
 use Rattle.medium.proofs.Layers.{paid_yes}
 use Rattle.refresher.specs.Layer.{refresh_array, refresh_survey, Made, MadeUnfit}
@@ -24,7 +23,7 @@ use Rattle.refresher.proofs.Sizes.{power_small}
 
 -- ---- the survey
 -- the settings, the size n and the life d are in range
-pub record FitsIn (ring interval n d : ℕ) : Type 0 where
+record FitsIn (ring interval n d : ℕ) : Type 0 where
   pub two : 2 ≤ ring
   pub short : ring ≤ 16
   pub paced : 1 ≤ interval
@@ -37,15 +36,9 @@ questions_yes : (ring interval n d : ℕ)
 questions_yes ring interval n d e =
     record { two = grind (arith, e); short = grind (arith, e); paced = grind (arith, e); wide = grind (arith, e); lives = grind (arith, e) }
 
-pub survey_yes : (ring interval count room : ℕ) → is_err (refresh_survey ring interval count room) ≡ false
+survey_yes : (ring interval count room : ℕ) → is_err (refresh_survey ring interval count room) ≡ false
     → FitsIn ring interval (greatest_power count) (life_of interval (greatest_power count) room)
 survey_yes ring interval count room e = questions_yes ring interval (greatest_power count) (life_of interval (greatest_power count) room) e
-
-pub denied_not_ok : (s : Result (Unit {0}) Denial) → is_err s ≡ true → s ≡ Ok tt → ⊥
-denied_not_ok s h e = let z : ◌≡◌ {A = ℕ} 0 1 = cc (ap is_err e) in omega arith
-
-pub ok_not_denied : (s : Result (Unit {0}) Denial) (d : Denial) → is_err s ≡ false → s ≡ Err d → ⊥
-ok_not_denied s d h e = let z : ◌≡◌ {A = ℕ} 0 1 = cc (ap is_err e) in omega arith
 
 -- ---- the size
 -- a greatest power of two that is 2 or more has a count of 2 or more
@@ -105,17 +98,21 @@ new_made b interval ring u t slow few fits =
       pile = refl;
     }
 
--- the same by the layer's registers
-pub layer_made : {A : Type 0} (b : Array A) (g : Registers) (size interval life : ℕ) (ring : List ℕ) (u : ℕ) (t : Pile A) → interval ≤ 65535 → length b.lines ≤ 4096
-    → FitsIn (length ring) interval (greatest_power (length b.lines)) (life_of interval (greatest_power (length b.lines)) (left b))
-    → g ≡ new_registers size interval ring → size ≡ greatest_power (length b.lines) → life ≡ life_of interval size (left b)
+-- the same by what the making computes, of the count and the rest of the life below
+pub layer_made : {A : Type 0} (b : Array A) (g : Registers) (interval count room size life : ℕ) (ring : List ℕ) (survey : Result (Unit {0}) Denial) (u : ℕ) (t : Pile A) → interval ≤ 65535 → count ≤ 4096
+    → count ≡ length b.lines → room ≡ left b → survey ≡ refresh_survey (length ring) interval count room → is_err survey ≡ false
+    → size ≡ greatest_power count → life ≡ life_of interval size room → g ≡ new_registers size interval ring
     → Made (new_registers (greatest_power (length b.lines)) interval ring) (refresh_array g life 0 b) b u u (over (refresh g) b u t) t
-layer_made {A} b g size interval life ring u t slow few fits eg es el =
-    let n = greatest_power (length b.lines) in
-    let made : (d : ℕ) → d ≡ life_of interval n (left b) → Made (new_registers n interval ring) (refresh_array (new_registers n interval ring) d 0 b) b u u (over (refresh (new_registers n interval ring)) b u t) t =
-    λ d e. (subst (λ x. Made (new_registers n interval ring) (refresh_array (new_registers n interval ring) x 0 b) b u u (over (refresh (new_registers n interval ring)) b u t) t) (sym e) (new_made b interval ring u t slow few fits)) in
-    subst (λ (h : Registers). Made (new_registers n interval ring) (refresh_array h life 0 b) b u u (over (refresh h) b u t) t) (sym (eg ∙ ap (λ x. new_registers x interval ring) es))
-    (made life (el ∙ ap (λ x. life_of interval x (left b)) es))
+layer_made {A} b g interval count room size life ring survey u t slow few ec er asked answered es el eg =
+    let m = length b.lines in
+    let n = greatest_power m in
+    let h = new_registers n interval ring in
+    let size_is : size ≡ n = es ∙ ap greatest_power ec in
+    let life_is : life ≡ life_of interval n (left b) = el ∙ ap (λ x. life_of interval x room) size_is ∙ ap (λ r. life_of interval n r) er in
+    let surveyed = subst (λ r. is_err (refresh_survey (length ring) interval m r) ≡ false) er (subst (λ c. is_err (refresh_survey (length ring) interval c room) ≡ false) ec (sym (ap is_err asked) ∙ answered)) in
+    let fits = survey_yes (length ring) interval m (left b) surveyed in
+    let made = subst (λ d. Made h (refresh_array h d 0 b) b u u (over (refresh h) b u t) t) (sym life_is) (new_made b interval ring u t slow (omega arith) fits) in
+    subst (λ (x : Registers). Made h (refresh_array x life 0 b) b u u (over (refresh x) b u t) t) (sym (eg ∙ ap (λ x. new_registers x interval ring) size_is)) made
 
 -- ---- a layer that does not
 no_lines : {A : Type 0} (f : ℕ → ℕ) (ls : List A) → placed_lines 0 0 f ls ≡ []

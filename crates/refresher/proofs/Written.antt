@@ -2,7 +2,7 @@
 -- that is asked below is denied; after it the lines are those before with one replaced, and what is paid for is what was, since a write
 -- and each copy count alike on both sides.
 use Rattle.std.proofs.Common.{◌≡◌, ℕ, ◌+◌, ◌-◌, ◌/◌, ◌%◌, ◌^◌, ◌<◌, ◌≤◌, ◌⊎◌, List, [], ◌∷◌, ◌++◌, length, get_or, set, Some, None, Ok, Err, sym, refl, ap, ◌∙◌, subst, inl, inr, ⊎_elim, arith}
-use Rattle.std.proofs.lemmas.Bool.{cases_lt, lt-ltb, le-ltb}
+use Rattle.std.proofs.lemmas.Bool.{cases_lt}
 use Rattle.std.proofs.lemmas.List.{length-set}
 use Rattle.line.specs.declared.denial.Denial.{Denial}
 use Rattle.refresh.specs.Refresh.{Registers, pointer_mate, previous_place, current_place, place_of, write_copies, after_write, refreshed, Sound}

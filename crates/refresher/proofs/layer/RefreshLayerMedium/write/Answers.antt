@@ -1,4 +1,4 @@
-use Rattle.std.proofs.Common.{◌≡◌, ◌+◌, ◌<◌, Ok, sym, refl, ap, ◌∙◌, subst, arith}
+use Rattle.std.proofs.Common.{◌≡◌, ◌+◌, Ok, sym, refl, ap, ◌∙◌, subst, arith}
 use Rattle.refresh.specs.Refresh.{Registers, after_write}
 use Rattle.medium.specs.Chain.{WriteStep}
 use Rattle.medium.specs.Meaning.{means}
