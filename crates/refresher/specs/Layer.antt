@@ -1,20 +1,29 @@
 -- The refresh layer over a medium: what it means by its registers and the array below, its survey, and its answers on places. Assumes nothing.
-use Rattle.std.specs.Prelude.{◌≡◌, ℕ, ◌+◌, ◌/◌, false, cond, List, length, take, Ok, Err, Option, Result, nat_le, nat_lt}
+use Rattle.std.specs.Prelude.{◌≡◌, ℕ, ◌+◌, ◌/◌, false, cond, List, length, Some, None, Ok, Err, Option, Result, nat_le, nat_lt}
 use Rattle.line.specs.declared.denial.Denial.{Denial}
 use Rattle.line.specs.declared.denial.Denial.TheVariants.{NoSuchLine, LifeOutOfRange, SettingsOutOfRange, TooFewLines}
 use Rattle.line.specs.Denials.{ask, in_range}
-use Rattle.refresh.specs.declared.round.Round.{Round}
 use Rattle.refresh.specs.Life.{life_of}
 use Rattle.refresh.specs.Powers.{greatest_power}
-use Rattle.refresh.specs.Refresh.{Registers, place_of, holder_at}
+use Rattle.refresh.specs.Refresh.{Registers, place_of, holder_at, waits, pointer_mate, previous_place, current_place}
 use Rattle.medium.specs.Array.{Array}
 use Rattle.medium.specs.Law.{left, NewRefresh, Unfit}
 use Rattle.medium.specs.Pile.{refresh, Pile, over, placed_lines, paid_life}
+use Rattle.refresher.specs.declared.registers.Exchange.{Exchange}
+use Rattle.refresher.specs.declared.registers.Registers.{Registers as Held}
 
--- the registers, as the layer's fields hold them: of the table of keys the first `ring` count
-abbrev pub registers : ℕ → ℕ → List ℕ → ℕ → Round → ℕ → ℕ → Registers
-registers size interval keys ring round due copies =
-    record { size = size; interval = interval; keys = take ring keys; round = round; due = due; copies = copies }
+-- the registers that the struct holds
+abbrev pub registers : Held → Registers
+registers x =
+    record { size = x.size; interval = x.interval; keys = x.keys.items; round = x.round; due = x.due; copies = x.copies }
+
+-- the exchange that the next accepted write brings, if it brings one
+abbrev pub due_exchange : Registers → Option Exchange
+due_exchange g =
+    cond (waits g) None
+    (cond (nat_lt g.round.pointer (pointer_mate g.round))
+    (Some (record { previous = previous_place g.round; current = current_place g.round }))
+    None)
 
 -- the lines of a layer with registers g over the array b
 abbrev pub refresh_lines : {A : Type 0} → Registers → Array A → List A

@@ -1,57 +1,37 @@
 //! The refresh layer, as a medium over any medium.
 
-ghost use Rattle.std.specs.Prelude.{◌≡◌, ℕ, ◌+◌, ◌-◌, ◌/◌, ◌%◌, ◌<◌, ◌≤◌, List, [], length};
-ghost use Rattle.refresh.specs.Powers.{greatest_power};
+ghost use Rattle.std.specs.Prelude.{◌≡◌, ℕ, ◌+◌, ◌-◌, ◌/◌, ◌%◌, ◌<◌, ◌≤◌};
 ghost use Rattle.refresh.specs.Refresh.{Bounded};
 ghost use Rattle.medium.specs.Chain.{LayerEffect};
 ghost use Rattle.medium.specs.Meaning.{means};
 ghost use Rattle.medium.specs.Pile.{over, refresh};
 ghost use Rattle.refresher.specs.Layer.{registers, refresh_lines, refresh_life, refresh_survey};
 
-use crate::registers::{life_for, next, place, size_for};
+use crate::registers::{Exchange, Registers, life_for, size_for};
 use line::denial::Denial;
 use medium::medium::Medium;
-use refresh::round::Round;
-
-mod making;
-mod places;
 
 /// A layer that remaps the lines of the medium below under one key after another, one line with each due refresh.
 #[derive(Drop)]
 pub struct RefreshLayer<M> {
     below: M,
-    keys: [u16; 16],
-    // how many of the keys are in use
-    ring: u16,
-    round: Round,
-    // how many lines there are, 0 where the settings do not fit
-    size: u16,
-    interval: u16,
-    // how many writes were accepted since the last refresh
-    due: u16,
-    copies: u32,
+    registers: Registers,
     life: u32,
+    // what the life costs below, with all the copies that it may bring
+    cost: u32,
     taken: u32,
     ghost within: { taken ≤ life },
-    ghost few: { size ≤ 4096 },
-    ghost power: { (0 < size → size ≡ greatest_power size) },
-    ghost short: { ring ≤ 16 },
-    ghost enough: { ring ≤ length keys },
-    ghost turn: { round.turn < ring },
-    ghost previous: { round.previous ≤ size - 1 },
-    ghost current: { round.current ≤ size - 1 },
-    ghost pointer: { round.pointer ≤ size - 1 },
-    ghost waits: { due < interval },
-    ghost counted: { due ≡ taken % interval },
-    ghost bounded: { Bounded round copies (taken / interval) },
-    ghost room: { life + life / interval + size / 2 ≤ 4294967295 },
+    ghost counted: { registers.due ≡ taken % registers.interval },
+    ghost bounded: { Bounded registers.round registers.copies (taken / registers.interval) },
+    ghost costs: { cost ≡ life + life / registers.interval + registers.size / 2 },
+    ghost room: { life + life / registers.interval + registers.size / 2 ≤ 4294967295 },
 }
 
 /// The first no of the questions on a ring of so many keys, the interval, the count of lines below and the life left below: 6, then 7, then 4.
 pub fn survey(ring: usize, interval: u16, count: u16, left: u32) -> Result<(), Denial>
     ensures answer { result ≡ refresh_survey ring interval count left }
 {
-    if ring < 2 || ring > 16 || interval < 1 {
+    if !(2..=16).contains(&ring) || interval < 1 {
         return Err(Denial::SettingsOutOfRange);
     }
     let size = size_for(count);
@@ -64,35 +44,105 @@ pub fn survey(ring: usize, interval: u16, count: u16, left: u32) -> Result<(), D
     Ok(())
 }
 
-impl<M: Medium> Medium for RefreshLayer<M> {
-    type Line = M::Line;
+impl<M: Medium> RefreshLayer<M> {
+    ghost use Rattle.std.specs.Prelude.{◌≡◌, ℕ, ◌<◌, length, Ok, Err, IfOk};
+    ghost use Rattle.line.specs.declared.denial.Denial.{Denial as Denied};
+    ghost use Rattle.refresh.specs.Powers.{greatest_power};
+    ghost use Rattle.refresh.specs.Refresh.{Sound, new_registers};
+    ghost use Rattle.medium.specs.Array.{fetched};
+    ghost use Rattle.medium.specs.Law.{left as left_of, Fitted};
+    ghost use Rattle.medium.specs.Pile.{made_by};
+    ghost use Rattle.refresher.specs.Layer.{place_answer, holder_answer, Made, MadeUnfit};
 
-    ghost lines = { λ x. refresh_lines (registers x.size x.interval x.keys x.ring x.round x.due x.copies) (means M.Medium x.below) };
-
-    ghost taken = { λ x. x.taken };
-
-    ghost life = { λ x. refresh_life (registers x.size x.interval x.keys x.ring x.round x.due x.copies) x.life x.taken (means M.Medium x.below) };
-
-    ghost wear = { λ x. M.Medium.wear x.below };
-
-    ghost pile = { λ x. over (refresh (registers x.size x.interval x.keys x.ring x.round x.due x.copies)) (means M.Medium x.below) (M.Medium.wear x.below) (M.Medium.pile x.below) };
-
-    ghost memory = { λ x. M.Medium.memory x.below };
-
-    ghost effect = { λ x i v r y. LayerEffect M.Medium x y x.below y.below (refresh (registers x.size x.interval x.keys x.ring x.round x.due x.copies)) (refresh_lines (registers x.size x.interval x.keys x.ring x.round x.due x.copies) (means M.Medium x.below)) i v r };
-
-    fn count(&self) -> u16 {
-        if self.size <= self.below.count() {
-            self.size
-        } else {
-            0
+    /// A layer over `below` that takes its keys from `ring` in turn, and refreshes one line after every `interval` writes.
+    /// Where the survey says no, it has no lines and life 0.
+    pub fn new(below: M, ring: &[u16], interval: u16) -> RefreshLayer<M>
+        ensures kept { result.below ≡ below }
+        ensures fit { refresh_survey (length ring.now) interval (length (M.Medium.lines below)) (left_of (means M.Medium below)) ≡ Ok tt → Made (new_registers (greatest_power (length (M.Medium.lines below))) interval ring.now) (means ⟦<RefreshLayer<M> as Medium>⟧ result) (means M.Medium below) (⟦<RefreshLayer<M> as Medium>⟧.wear result) (M.Medium.wear below) (⟦<RefreshLayer<M> as Medium>⟧.pile result) (M.Medium.pile below) }
+        ensures unfit { (d : Denied) → refresh_survey (length ring.now) interval (length (M.Medium.lines below)) (left_of (means M.Medium below)) ≡ Err d → MadeUnfit (registers result.registers) (means ⟦<RefreshLayer<M> as Medium>⟧ result) (means M.Medium below) (⟦<RefreshLayer<M> as Medium>⟧.wear result) (M.Medium.wear below) (⟦<RefreshLayer<M> as Medium>⟧.pile result) (M.Medium.pile below) }
+        ensures fitted { Fitted (means M.Medium below) (M.Medium.wear below) (M.Medium.pile below) → Fitted (means ⟦<RefreshLayer<M> as Medium>⟧ result) (⟦<RefreshLayer<M> as Medium>⟧.wear result) (⟦<RefreshLayer<M> as Medium>⟧.pile result) }
+    {
+        let count = below.count();
+        let left = below.life() - below.taken();
+        if survey(ring.len(), interval, count, left).is_err() {
+            return RefreshLayer {
+                below,
+                registers: Registers::unfit(),
+                life: 0,
+                cost: 0,
+                taken: 0,
+            };
+        }
+        let size = size_for(count);
+        let life = life_for(left, size, interval);
+        let registers = Registers::new(size, interval, ring);
+        let cost = registers.cost(life);
+        RefreshLayer {
+            below,
+            registers,
+            life,
+            cost,
+            taken: 0,
         }
     }
 
+    /// The place below of a line. A line that is not below the count is denied with 1.
+    pub fn where_is(&self, line: u16) -> Result<u16, Denial>
+        ensures answer { result ≡ place_answer (registers self.now.registers) (means M.Medium self.now.below) line }
+        ensures content { IfOk result (λ p. fetched (M.Medium.lines self.now.below) p ≡ fetched (refresh_lines (registers self.now.registers) (means M.Medium self.now.below)) line) }
+        ensures sound { 0 < self.now.registers.size → Sound self.now.registers.size self.now.registers.keys.items self.now.registers.round }
+    {
+        if line >= self.count() {
+            return Err(Denial::NoSuchLine);
+        }
+        Ok(self.registers.place(line))
+    }
+
+    /// The line at a place below, none from the layer's size on. A place that is not below the count below is denied with 1.
+    pub fn holder(&self, place: u16) -> Result<Option<u16>, Denial>
+        ensures answer { result ≡ holder_answer (registers self.now.registers) (means M.Medium self.now.below) place }
+        ensures sound { 0 < self.now.registers.size → Sound self.now.registers.size self.now.registers.keys.items self.now.registers.round }
+    {
+        if place >= self.below.count() {
+            return Err(Denial::NoSuchLine);
+        }
+        Ok(self.registers.line_at(place))
+    }
+
+    /// How many copies the layer has made.
+    pub fn copies(&self) -> u32
+        ensures answer { result ≡ made_by (⟦<RefreshLayer<M> as Medium>⟧.pile self.now) }
+    {
+        self.registers.copies()
+    }
+}
+
+impl<M: Medium> Medium for RefreshLayer<M> {
+    type Line = M::Line;
+
+    ghost lines = { λ x. refresh_lines (registers x.registers) (means M.Medium x.below) };
+
+    ghost taken = { λ x. x.taken };
+
+    ghost life = { λ x. refresh_life (registers x.registers) x.life x.taken (means M.Medium x.below) };
+
+    ghost wear = { λ x. M.Medium.wear x.below };
+
+    ghost pile = { λ x. over (refresh (registers x.registers)) (means M.Medium x.below) (M.Medium.wear x.below) (M.Medium.pile x.below) };
+
+    ghost memory = { λ x. M.Medium.memory x.below };
+
+    ghost effect = { λ x i v r y. LayerEffect M.Medium x y x.below y.below (refresh (registers x.registers)) (refresh_lines (registers x.registers) (means M.Medium x.below)) i v r };
+
+    fn count(&self) -> u16 {
+        let size = self.registers.size();
+        if size <= self.below.count() { size } else { 0 }
+    }
+
+    #[tactic(auto, using(medium::proofs::Layers::paid_yes, medium::proofs::Layers::paid_no))]
     fn life(&self) -> u32 {
         let left = (self.below.life() - self.below.taken()) as u64;
-        let cost = self.life + self.life / self.interval as u32 + (self.size / 2) as u32;
-        if cost as u64 <= self.taken as u64 + self.copies as u64 + left {
+        if self.cost as u64 <= self.taken as u64 + self.registers.copies() as u64 + left {
             self.life
         } else {
             self.taken
@@ -111,7 +161,7 @@ impl<M: Medium> Medium for RefreshLayer<M> {
         if line >= self.count() {
             return Err(Denial::NoSuchLine);
         }
-        self.below.read(place(self.round, line))
+        self.below.read(self.registers.place(line))
     }
 
     fn write(&mut self, line: u16, value: M::Line) -> Result<u64, Denial> {
@@ -121,31 +171,20 @@ impl<M: Medium> Medium for RefreshLayer<M> {
         if self.taken >= (*self).life() {
             return Err(Denial::LifeUsed);
         }
-        let round = self.round;
-        let toll = self.below.write(place(round, line), value)?;
-        if self.due + 1 < self.interval {
-            self.due += 1;
-            self.taken += 1;
-            return Ok(toll);
-        }
-        let after = next(round, self.size, &self.keys[0..self.ring as usize]);
-        let old = round.pointer ^ round.previous;
-        let new = round.pointer ^ round.current;
-        let mate = old ^ round.current;
-        if mate <= round.pointer {
-            self.round = after;
-            self.due = 0;
-            self.taken += 1;
-            return Ok(toll);
-        }
-        let mated = self.below.read(new)?;
-        let moved = self.below.read(old)?;
-        let first = self.below.write(old, mated)?;
-        let second = self.below.write(new, moved)?;
-        self.round = after;
-        self.due = 0;
-        self.copies += 2;
+        let toll = self.below.write(self.registers.place(line), value)?;
+        let toll = match self.registers.exchange() {
+            None => toll,
+            Some(Exchange { previous, current }) => {
+                // both reads come before the first write, which is into a place that the second read reads
+                let mated = self.below.read(current)?;
+                let moved = self.below.read(previous)?;
+                let first = self.below.write(previous, mated)?;
+                let second = self.below.write(current, moved)?;
+                toll.wrapping_add(first).wrapping_add(second)
+            }
+        };
+        self.registers.count_write();
         self.taken += 1;
-        Ok(toll.wrapping_add(first).wrapping_add(second))
+        Ok(toll)
     }
 }

@@ -1,9 +1,8 @@
-use Rattle.std.proofs.Common.{rules}
-use Rattle.refresher.proofs.Held.{held_of, held_sound}
+use Rattle.refresher.proofs.Held.{sound_of}
 use Rattle.refresher.proofs.layer.RefreshLayer.holder.Goals as goal
 
-pub returns-then-place-count : goal.returns-then-place-count
-returns-then-place-count g c = let x = c.args.self.now in record { answer = search rules; sound = λ h. held_sound (held_of x) h }
+pub returns-then-place-count-clause-sound : goal.returns-then-place-count-clause-sound
+returns-then-place-count-clause-sound g c = sound_of c.args.self.now.registers
 
-pub returns : goal.returns
-returns g c = let x = c.args.self.now in record { answer = search rules; sound = λ h. held_sound (held_of x) h }
+pub returns-clause-sound : goal.returns-clause-sound
+returns-clause-sound g c = sound_of c.args.self.now.registers

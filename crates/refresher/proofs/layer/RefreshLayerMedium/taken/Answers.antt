@@ -1,6 +1,5 @@
-use Rattle.std.proofs.Common.{refl}
 use Rattle.medium.proofs.Layers.{paid_least}
 use Rattle.refresher.proofs.layer.RefreshLayerMedium.taken.Goals as goal
 
-pub returns : goal.returns
-returns g c = record { answer = refl; bound = paid_least _ _ _ _ c.args.self.now.within }
+pub returns-clause-bound : goal.returns-clause-bound
+returns-clause-bound g c = paid_least _ _ _ _ c.args.self.now.within
