@@ -9,14 +9,14 @@ use Rattle.compose.specs.declared.text.Lines.{Lines}
 use Rattle.compose.specs.Composing.{Longer}
 use Rattle.compose.specs.Fields.{then}
 use Rattle.compose.specs.Lines.{Entry, entries, last_number}
-use Rattle.compose.specs.Pieces.{pieces, pieces_left}
+use Rattle.compose.specs.Pieces.{pieces, pieces_of}
 use Rattle.compose.specs.Scripts.{Script, asks_in, script_in, script_of, file_of}
 use Rattle.compose.specs.Settings.{settings_in, after_settings}
 use Rattle.compose.specs.Taken.{lines_in, last_in}
 
 -- the lines of a text, none of which is taken yet
 abbrev pub Opened : List ℕ → Lines → Type 0
-Opened text l = (pieces_left 10 l.rest ≡ pieces 10 text) × (l.number ≡ 0)
+Opened text l = (pieces_of l.pieces ≡ pieces 10 text) × (l.number ≡ 0)
 
 opened_script : (text : List ℕ) (l : Lines) → Opened text l → script_of text ≡ script_in (last_in l) (lines_in l)
 opened_script text l o =
