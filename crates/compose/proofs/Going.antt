@@ -95,20 +95,3 @@ going_more {es' = es'} {v₀ = v₀} {w = w} {size = size} {e = e} {q = q} g he 
       few = omega arith;
       short = le;
     }
-
--- a request for which there is no room
-pub going_long : {es₀ es es' : List Entry} {v₀ v : Vec ℕ Global} {size number : ℕ} {e : Entry} {q : Request}
-    → Going es₀ v₀ es v size number → es ≡ e ∷ es' → Ok q ≡ at_line e.number (request_in e.words) → 65500 < size + request_size q
-    → asks_in 0 es₀ ≡ Err (at e.number TooLong)
-going_long {es' = es'} {size = size} {e = e} {q = q} g he hq gt =
-    turn g he hq
-    ∙ ap (λ (t : Bool). following g.done (cond t (then (asks_in (size + request_size q) es') (λ qs. Ok (ask_of q ∷ qs))) (Err (at e.number TooLong)))) (lt-leb (size + request_size q) 65500 gt)
-
--- a request that cannot be read
-pub going_broke : {es₀ es es' : List Entry} {v₀ v : Vec ℕ Global} {size number : ℕ} {e : Entry} {f : Fault}
-    → Going es₀ v₀ es v size number → es ≡ e ∷ es' → Err f ≡ at_line e.number (request_in e.words) → asks_in 0 es₀ ≡ Err f
-going_broke g he hf = turn g he hf
-
-pub going_end : {es₀ es : List Entry} {v₀ v : Vec ℕ Global} {size number : ℕ} (g : Going es₀ v₀ es v size number) → es ≡ [] → asks_in 0 es₀ ≡ Ok g.done
-going_end {size = size} g he =
-    g.says ∙ ap (λ (z : List Entry). following g.done (asks_in size z)) he ∙ ap {B = Result (List Ask) Fault} Ok (append-nil g.done)
