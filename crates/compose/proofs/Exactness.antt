@@ -18,7 +18,7 @@ use Rattle.compose.specs.Pieces.{pieces}
 use Rattle.compose.specs.Says.{Numeral, KeysSpelled, AskSpelled, AsksSpelled, Says, Exact, OneMeaning}
 use Rattle.compose.specs.Scripts.{Script, asks_in, script_of, file_of}
 use Rattle.compose.specs.Numerals.{number}
-use Rattle.compose.specs.Settings.{others, letter, pile_in, setting_in, keys_in, after_settings, settings_in}
+use Rattle.compose.specs.Settings.{others, letter, setting_in, keys_in, after_settings, settings_in}
 use Rattle.compose.proofs.Asking.{then_ok, then_go, request_sound, request_complete}
 use Rattle.compose.proofs.Going.{length_ask}
 use Rattle.compose.proofs.Numerals.{ok_err, ok_ok, numeral_sound, numeral_complete}
@@ -99,14 +99,14 @@ settings_say text s qs h asked =
     let e4 : List Entry = others e3 in
     let e5 : List Entry = others e4 in
     let e6 : List Entry = others e5 in
-    let p = then_ok (pile_in last es) _ s h in
+    let p = then_ok (setting_in Pile letter last es) _ s h in
     let r = then_ok (setting_in Regions (number 255) last e1) _ s p.1.1 in
     let i = then_ok (setting_in Interval (number 65535) last e2) _ s r.1.1 in
     let l = then_ok (setting_in Lines (number 65535) last e3) _ s i.1.1 in
     let n = then_ok (setting_in N (number 255) last e4) _ s l.1.1 in
     let f = then_ok (setting_in Life (number 4294967295) last e5) _ s n.1.1 in
     let k = then_ok (keys_in last e6) _ s f.1.1 in
-    let same : record { pile = p.0; regions = r.0; interval = i.0; lines = l.0; n = n.0; life = f.0; keys = k.0 } ≡ s = ok_ok _ s k.1.1 in
+    let same : record { pile = p.0.0; regions = r.0; interval = i.0; lines = l.0; n = n.0; life = f.0; keys = k.0 } ≡ s = ok_ok _ s k.1.1 in
     let ps = setting_sound Pile letter last es p.0 p.1.0 in
     let rs = setting_sound Regions (number 255) last e1 r.0 r.1.0 in
     let is = setting_sound Interval (number 65535) last e2 i.0 i.1.0 in
@@ -153,7 +153,7 @@ said_settings text s qs x =
     let b4 = begins_so e4 _ _ b3.1 in
     let b5 = begins_so e5 _ _ b4.1 in
     let b6 = begins_so e6 _ _ b5.1 in (
-      then_go _ (setting_complete Pile letter last es x.pile s.pile b0.0 (ap letter x.pile_is))
+      then_go _ (setting_complete Pile letter last es x.pile (record { 0 = s.pile }) b0.0 (ap letter x.pile_is))
           ∙ then_go _ (setting_complete Regions (number 255) last e1 x.regions s.regions b1.0 (numeral_complete 255 x.regions s.regions x.regions_is))
           ∙ then_go _ (setting_complete Interval (number 65535) last e2 x.interval s.interval b2.0 (numeral_complete 65535 x.interval s.interval x.interval_is))
           ∙ then_go _ (setting_complete Lines (number 65535) last e3 x.lines s.lines b3.0 (numeral_complete 65535 x.lines s.lines x.lines_is))

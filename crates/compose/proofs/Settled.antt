@@ -1,6 +1,7 @@
 -- The lines of the settings are read as what their words spell, and what is read is what they spell: one line at a time.
 use Rattle.std.proofs.Common.{◌≡◌, ℕ, Bool, true, false, cond, List, [], ◌∷◌, map, Ok, Err, Result, sym, refl, ap, ◌∙◌, subst, arith}
 use Rattle.std.proofs.lemmas.Slice.Eq.{bytes_eq-Decides}
+use Rattle.compose.specs.declared.fields.Letter.{Letter}
 use Rattle.compose.specs.declared.refusal.Fault.{Fault}
 use Rattle.compose.specs.declared.refusal.Setting.{Setting}
 use Rattle.compose.specs.declared.refusal.Setting.TheVariants.{Keys}
@@ -79,10 +80,10 @@ pub setting_complete : {X : Type 0} (s : Setting) (f : List ℕ → Result X Wro
     → Begin es (name_of s ∷ w ∷ []) → f w ≡ Ok x → setting_in s f last es ≡ Ok x
 setting_complete s f last es w x b h = line_complete s (lone f) last es (w ∷ []) x b (then_go _ h)
 
-pub letter_ok : (w : List ℕ) (b : ℕ) → letter w ≡ Ok b → w ≡ b ∷ []
-letter_ok [] b h = absurd (ok_err b NotALetter h)
-letter_ok (c ∷ []) b h = ap (λ (x : ℕ). x ∷ []) (ok_ok c b h)
-letter_ok (c ∷ d ∷ w) b h = absurd (ok_err b NotALetter h)
+pub letter_ok : (w : List ℕ) (l : Letter) → letter w ≡ Ok l → w ≡ l.0 ∷ []
+letter_ok [] l h = absurd (ok_err l NotALetter h)
+letter_ok (b ∷ []) l h = ap (λ (x : Letter). x.0 ∷ []) (ok_ok (record { 0 = b }) l h)
+letter_ok (b ∷ c ∷ w) l h = absurd (ok_err l NotALetter h)
 
 -- the keys
 pub keys_sound : (last : ℕ) (es : List Entry) (ks : List ℕ) → keys_in last es ≡ Ok ks → (ws : List (List ℕ)) × (Begin es (name_of Keys ∷ ws) × KeysSpelled ws ks)

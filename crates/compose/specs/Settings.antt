@@ -2,6 +2,7 @@
 use Rattle.std.specs.Prelude.{ℕ, Bool, false, cond, List, [], ◌∷◌, Ok, Err, codes, Result}
 use Rattle.std.specs.Str.{bytes_eq}
 use Rattle.runfile.specs.declared.settings.Settings.{Settings}
+use Rattle.compose.specs.declared.fields.Letter.{Letter}
 use Rattle.compose.specs.declared.refusal.Fault.{Fault}
 use Rattle.compose.specs.declared.refusal.Setting.{Setting}
 use Rattle.compose.specs.declared.refusal.Setting.TheVariants.{Pile, Regions, Interval, Lines, N, Life, Keys}
@@ -37,9 +38,9 @@ others [] = []
 others (e ∷ es) = es
 
 -- a pile's letter is any one byte
-abbrev pub letter : List ℕ → Result ℕ Wrong
+abbrev pub letter : List ℕ → Result Letter Wrong
 letter [] = Err NotALetter
-letter (b ∷ []) = Ok b
+letter (b ∷ []) = Ok (record { 0 = b })
 letter (b ∷ c ∷ bs) = Err NotALetter
 
 -- what the only word spells
@@ -59,9 +60,6 @@ four_in ws =
 abbrev pub setting_in : {X : Type 0} → Setting → (List ℕ → Result X Wrong) → ℕ → List Entry → Result X Fault
 setting_in s f last es = then (named s last es) (λ e. at_line e.number (lone f e.words))
 
-abbrev pub pile_in : ℕ → List Entry → Result ℕ Fault
-pile_in last es = setting_in Pile letter last es
-
 -- the four keys
 abbrev pub keys_in : ℕ → List Entry → Result (List ℕ) Fault
 keys_in last es = then (named Keys last es) (λ e. at_line e.number (four_in e.words))
@@ -72,11 +70,11 @@ after_settings es = others (others (others (others (others (others (others es)))
 
 abbrev pub settings_in : ℕ → List Entry → Result Settings Fault
 settings_in last es =
-    then (pile_in last es) (λ pile.
+    then (setting_in Pile letter last es) (λ pile.
     then (setting_in Regions (number 255) last (others es)) (λ regions.
     then (setting_in Interval (number 65535) last (others (others es))) (λ interval.
     then (setting_in Lines (number 65535) last (others (others (others es)))) (λ lines.
     then (setting_in N (number 255) last (others (others (others (others es))))) (λ n.
     then (setting_in Life (number 4294967295) last (others (others (others (others (others es)))))) (λ life.
     then (keys_in last (others (others (others (others (others (others es))))))) (λ keys.
-    Ok (record { pile = pile; regions = regions; interval = interval; lines = lines; n = n; life = life; keys = keys }))))))))
+    Ok (record { pile = pile.0; regions = regions; interval = interval; lines = lines; n = n; life = life; keys = keys }))))))))

@@ -10,6 +10,14 @@ use line::kind::LineKind;
 use runfile::lengths;
 use runfile::settings::Settings;
 
+/// How many bytes the requests have in the file, and how many there are.
+#[derive(Clone, Copy)]
+pub(crate) struct Extent {
+    pub(crate) size: usize,
+    pub(crate) number: u32,
+    ghost short: { size ≤ 65500 },
+}
+
 // Appends bytes, for which there is room.
 fn put(file: &mut Vec<u8>, bytes: &[u8])
     requires room { HasRoom file.old (length bytes.now) }
@@ -62,14 +70,13 @@ pub(crate) fn put_request(file: &mut Vec<u8>, request: Request)
     }
 }
 
-/// Appends the trailer of so many requests, which are so many bytes long.
-pub(crate) fn put_trailer(file: &mut Vec<u8>, size: usize, number: u32)
-    requires size { size ≤ 65500 }
+/// Appends the trailer of requests of this extent.
+pub(crate) fn put_trailer(file: &mut Vec<u8>, requests: Extent)
     requires room { HasRoom file.old 16 }
-    ensures put { Puts file.old (trailer_bytes size number) file.new }
+    ensures put { Puts file.old (trailer_bytes requests.size requests.number) file.new }
 {
-    put(file, &((size + lengths::SETTINGS) as u32).to_le_bytes());
-    put(file, &(size as u32).to_le_bytes());
-    put(file, &number.to_le_bytes());
+    put(file, &((requests.size + lengths::SETTINGS) as u32).to_le_bytes());
+    put(file, &(requests.size as u32).to_le_bytes());
+    put(file, &requests.number.to_le_bytes());
     put(file, b"RUN1");
 }

@@ -7,7 +7,7 @@ ghost use Rattle.compose.specs.Pieces.{Cuts};
 ghost use Rattle.compose.specs.Says.{Exact, Fitting, OneMeaning};
 ghost use Rattle.compose.specs.Taken.{lines_in};
 
-use crate::bytes::{put_request, put_settings, put_trailer};
+use crate::bytes::{Extent, put_request, put_settings, put_trailer};
 use crate::refusal::{Fault, Refusal, Wrong};
 use crate::requests::read_request;
 use crate::settings::read_settings;
@@ -16,13 +16,6 @@ use runfile::lengths;
 
 // The most bytes that requests may have: what the longest run file has besides its settings and its trailer.
 const MOST: usize = lengths::LONGEST - lengths::SETTINGS - lengths::TRAILER;
-
-// How many bytes the requests have in the file, and how many there are.
-#[derive(Clone, Copy)]
-struct Extent {
-    size: usize,
-    number: u32,
-}
 
 // Appends the requests of all lines that are left.
 fn append_requests(lines: Lines, file: &mut Vec<u8>) -> Result<Extent, Fault>
@@ -51,8 +44,8 @@ fn append_run(text: &[u8], file: &mut Vec<u8>) -> Result<(), Fault>
 {
     let mut lines = Lines::of(text);
     put_settings(file, read_settings(&mut lines)?);
-    let extent = append_requests(lines, file)?;
-    put_trailer(file, extent.size, extent.number);
+    let requests = append_requests(lines, file)?;
+    put_trailer(file, requests);
     Ok(())
 }
 

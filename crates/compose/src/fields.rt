@@ -1,46 +1,31 @@
-//! The fields of a line, taken from its words in turn.
+//! The fields of a line: what one word spells.
 
-ghost use Rattle.std.specs.Prelude.{◌≡◌, Ok};
-ghost use Rattle.compose.specs.Fields.{Takes, ended, seen};
+ghost use Rattle.std.specs.Prelude.{◌≡◌, ℕ, List, Result};
+ghost use Rattle.compose.specs.declared.refusal.Wrong.{Wrong};
 ghost use Rattle.compose.specs.Settings.{letter};
-ghost use Rattle.compose.specs.Pieces.{words_of};
 
-use crate::numbers::Number;
 use crate::refusal::Wrong;
-use crate::text::Words;
 
-impl<'a> Words<'a> {
-    /// The next word. Refused where none is left.
-    pub(crate) fn word(&mut self) -> Result<&'a [u8], Wrong>
-        ensures answer { Takes Ok self.old (seen result) self.new }
-    {
-        self.next().ok_or(Wrong::MissingWord)
-    }
+/// What one word spells.
+pub(crate) trait Field: Drop + Sized {
+    ghost spelled: { List ℕ → Result Self Wrong };
 
-    /// The next word, as a number. Refused where no word is left, and where the word spells no number of this type.
-    pub(crate) fn number<N: Number>(&mut self) -> Result<N, Wrong>
-        ensures answer { Takes N.spelled self.old result self.new }
-    {
-        N::read(self.word()?)
-    }
+    /// What a word spells, or what is wrong with it.
+    fn read(word: &[u8]) -> Result<Self, Wrong>
+        ensures answer { result ≡ spelled word.now };
+}
 
-    /// The next word, as a pile's letter. Refused where no word is left, and where it is not one byte.
-    pub(crate) fn letter(&mut self) -> Result<u8, Wrong>
-        ensures answer { Takes letter self.old result self.new }
-    {
-        match self.word()? {
-            [letter] => Ok(*letter),
+/// A pile's letter, which is any one byte.
+#[derive(Clone, Copy)]
+pub(crate) struct Letter(pub(crate) u8);
+
+impl Field for Letter {
+    ghost spelled = { letter };
+
+    fn read(word: &[u8]) -> Result<Letter, Wrong> {
+        match word {
+            [letter] => Ok(Letter(*letter)),
             _ => Err(Wrong::NotALetter),
-        }
-    }
-
-    /// Refused where a word is left.
-    pub(crate) fn end(mut self) -> Result<(), Wrong>
-        ensures answer { result ≡ ended (words_of self.entry) }
-    {
-        match self.next() {
-            Some(_) => Err(Wrong::ExtraWord),
-            None => Ok(()),
         }
     }
 }

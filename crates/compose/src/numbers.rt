@@ -1,21 +1,12 @@
-//! Numbers out of words.
+//! Numbers out of words: each in the range of its type.
 
-ghost use Rattle.std.specs.Prelude.{◌≡◌, ◌≤◌, List, ℕ, IfOk, Result};
+ghost use Rattle.std.specs.Prelude.{◌≡◌, ◌≤◌, IfOk};
 ghost use Rattle.compose.specs.Numerals.{number, integer};
-ghost use Rattle.compose.specs.declared.refusal.Wrong.{Wrong};
 
+use crate::fields::Field;
 use crate::refusal::Wrong;
 
-/// A number that a word spells, in the range of its type.
-pub(crate) trait Number: Drop + Sized {
-    ghost spelled: { List ℕ → Result Self Wrong };
-
-    /// Refused at the first byte that is no digit, or at which the number becomes too great; a word without digits is no number.
-    fn read(word: &[u8]) -> Result<Self, Wrong>
-        ensures answer { result ≡ spelled word.now };
-}
-
-impl Number for u8 {
+impl Field for u8 {
     ghost spelled = { number 255 };
 
     fn read(word: &[u8]) -> Result<u8, Wrong> {
@@ -23,7 +14,7 @@ impl Number for u8 {
     }
 }
 
-impl Number for u16 {
+impl Field for u16 {
     ghost spelled = { number 65535 };
 
     fn read(word: &[u8]) -> Result<u16, Wrong> {
@@ -31,7 +22,7 @@ impl Number for u16 {
     }
 }
 
-impl Number for u32 {
+impl Field for u32 {
     ghost spelled = { number 4294967295 };
 
     fn read(word: &[u8]) -> Result<u32, Wrong> {
@@ -40,7 +31,7 @@ impl Number for u32 {
 }
 
 /// Digits, with a minus sign before them where the number is negative.
-impl Number for i32 {
+impl Field for i32 {
     ghost spelled = { integer };
 
     fn read(word: &[u8]) -> Result<i32, Wrong> {
@@ -52,7 +43,8 @@ impl Number for i32 {
     }
 }
 
-// The number up to `greatest` that the digits of a word spell.
+// The number up to `greatest` that the digits of a word spell. Refused at the first byte that is no digit, or at which the number becomes
+// too great; a word without bytes is no number.
 fn read_number(word: &[u8], greatest: u32) -> Result<u32, Wrong>
     ensures answer { result ≡ number greatest word.now }
     ensures bound { IfOk result (λ n. n ≤ greatest) }

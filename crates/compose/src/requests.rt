@@ -36,11 +36,11 @@ fn read_load(words: &mut Words) -> Result<Load, Wrong>
     ensures after { OnOk result (words_of words.new ≡ after_load (words_of words.old)) }
 {
     Ok(Load {
-        time: words.number()?,
-        east: words.number()?,
-        north: words.number()?,
-        tonnes: words.number()?,
-        activity: Activity(words.number()?),
+        time: words.field()?,
+        east: words.field()?,
+        north: words.field()?,
+        tonnes: words.field()?,
+        activity: Activity(words.field()?),
     })
 }
 
@@ -48,7 +48,7 @@ fn read_load(words: &mut Words) -> Result<Load, Wrong>
 fn read_fields(mut words: Words) -> Result<Request, Wrong>
     ensures answer { result ≡ read_in (words_of words.entry) }
 {
-    let line = words.number()?;
+    let line = words.field()?;
     words.end()?;
     Ok(Request::Read { line })
 }
@@ -57,7 +57,7 @@ fn read_fields(mut words: Words) -> Result<Request, Wrong>
 fn write_fields(mut words: Words) -> Result<Request, Wrong>
     ensures answer { result ≡ write_in (words_of words.entry) }
 {
-    let line = words.number()?;
+    let line = words.field()?;
     let load = read_load(&mut words)?;
     words.end()?;
     Ok(Request::Write { line, load })

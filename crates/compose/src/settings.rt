@@ -2,10 +2,10 @@
 
 ghost use Rattle.std.specs.Prelude.{◌≡◌, ◌<◌, IfOk, OnOk};
 ghost use Rattle.compose.specs.Pieces.{words_of};
-ghost use Rattle.compose.specs.Settings.{after_settings, four_in, keys_in, letter, lone, named, pile_in, setting_in, settings_in};
+ghost use Rattle.compose.specs.Settings.{after_settings, four_in, keys_in, lone, named, setting_in, settings_in};
 ghost use Rattle.compose.specs.Taken.{Taken, lines_in, last_in, opened};
 
-use crate::numbers::Number;
+use crate::fields::{Field, Letter};
 use crate::refusal::{Fault, Setting, Wrong};
 use crate::text::{Line, Lines, Words};
 use runfile::settings::Settings;
@@ -27,22 +27,13 @@ fn setting_line<'a>(lines: &mut Lines<'a>, setting: Setting) -> Result<Line<'a>,
     }
 }
 
-// The number that is all of the words.
-fn one_number<N: Number>(mut words: Words) -> Result<N, Wrong>
-    ensures answer { result ≡ lone N.spelled (words_of words.entry) }
+// What the only word spells.
+fn lone_field<F: Field>(mut words: Words) -> Result<F, Wrong>
+    ensures answer { result ≡ lone F.spelled (words_of words.entry) }
 {
-    let number = words.number()?;
+    let field = words.field()?;
     words.end()?;
-    Ok(number)
-}
-
-// The letter that is all of the words.
-fn one_letter(mut words: Words) -> Result<u8, Wrong>
-    ensures answer { result ≡ lone letter (words_of words.entry) }
-{
-    let letter = words.letter()?;
-    words.end()?;
-    Ok(letter)
+    Ok(field)
 }
 
 // The four numbers that are all of the words.
@@ -50,31 +41,22 @@ fn four_numbers(mut words: Words) -> Result<[u16; 4], Wrong>
     ensures answer { result ≡ four_in (words_of words.entry) }
 {
     let numbers = [
-        words.number()?,
-        words.number()?,
-        words.number()?,
-        words.number()?,
+        words.field()?,
+        words.field()?,
+        words.field()?,
+        words.field()?,
     ];
     words.end()?;
     Ok(numbers)
 }
 
-// The number of the next line, which is to be the line of this setting.
-fn read_setting<N: Number>(lines: &mut Lines, setting: Setting) -> Result<N, Fault>
-    ensures answer { result ≡ setting_in setting N.spelled (last_in lines.old) (lines_in lines.old) }
+// What the one word after the name of the next line spells. The line is to be the line of this setting.
+fn read_setting<F: Field>(lines: &mut Lines, setting: Setting) -> Result<F, Fault>
+    ensures answer { result ≡ setting_in setting F.spelled (last_in lines.old) (lines_in lines.old) }
     ensures after { Taken lines.old lines.new }
 {
     let line = setting_line(lines, setting)?;
-    line.locate(one_number(line.words))
-}
-
-// The letter of the next line, which is to be the line of the pile.
-fn read_pile(lines: &mut Lines) -> Result<u8, Fault>
-    ensures answer { result ≡ pile_in (last_in lines.old) (lines_in lines.old) }
-    ensures after { Taken lines.old lines.new }
-{
-    let line = setting_line(lines, Setting::Pile)?;
-    line.locate(one_letter(line.words))
+    line.locate(lone_field(line.words))
 }
 
 // The keys of the next line, which is to be the line of the keys.
@@ -93,8 +75,9 @@ pub(crate) fn read_settings(lines: &mut Lines) -> Result<Settings, Fault>
     ensures letter { IfOk result (λ s. s.pile < 256) }
     ensures after { OnOk result (lines_in lines.new ≡ after_settings (lines_in lines.old)) }
 {
+    let Letter(pile) = read_setting(lines, Setting::Pile)?;
     Ok(Settings {
-        pile: char::from(read_pile(lines)?),
+        pile: char::from(pile),
         regions: read_setting(lines, Setting::Regions)?,
         interval: read_setting(lines, Setting::Interval)?,
         lines: read_setting(lines, Setting::Lines)?,

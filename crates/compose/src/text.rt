@@ -1,12 +1,13 @@
 //! The lines of a text and the words of a line.
 
-ghost use Rattle.std.specs.Prelude.{◌≡◌};
+ghost use Rattle.std.specs.Prelude.{◌≡◌, Ok};
 ghost use Rattle.std.specs.Iterator.{YieldsFirstRef, item_count};
-ghost use Rattle.compose.specs.Fields.{at, at_line};
+ghost use Rattle.compose.specs.Fields.{Takes, at, at_line, ended, seen};
 ghost use Rattle.compose.specs.Lines.{HandedLine, entry_of, is_entry};
 ghost use Rattle.compose.specs.Pieces.{pieces, pieces_of, words, words_of};
 ghost use Rattle.compose.specs.Taken.{lines_in};
 
+use crate::fields::Field;
 use crate::refusal::{Fault, Wrong};
 
 /// What is left of the pieces that the stops part.
@@ -66,6 +67,32 @@ impl<'a> Iterator for Words<'a> {
 
     fn next(&mut self) -> Option<&'a [u8]> {
         self.pieces.find(|word| !word.is_empty())
+    }
+}
+
+impl<'a> Words<'a> {
+    /// The next word. Refused where none is left.
+    pub(crate) fn word(&mut self) -> Result<&'a [u8], Wrong>
+        ensures answer { Takes Ok self.old (seen result) self.new }
+    {
+        self.next().ok_or(Wrong::MissingWord)
+    }
+
+    /// What the next word spells. Refused where no word is left, and where the word spells nothing of this type.
+    pub(crate) fn field<F: Field>(&mut self) -> Result<F, Wrong>
+        ensures answer { Takes F.spelled self.old result self.new }
+    {
+        F::read(self.word()?)
+    }
+
+    /// Refused where a word is left.
+    pub(crate) fn end(mut self) -> Result<(), Wrong>
+        ensures answer { result ≡ ended (words_of self.entry) }
+    {
+        match self.next() {
+            Some(_) => Err(Wrong::ExtraWord),
+            None => Ok(()),
+        }
     }
 }
 

@@ -7,9 +7,9 @@ use Rattle.compose.proofs.compose.append_run.Goals as goal
 pub returns : goal.returns
 returns c =
     let o : Opened c.args.text.now c.of-lines.result = (c.of-lines.ensures.lines, c.of-lines.ensures.number) in
-    let a = c.in_ok-extent.ensures.answer in
+    let a = c.in_ok-requests.ensures.answer in
     let s = c.in_ok-read_settings.ensures in
-    let x = c.in_ok-extent.extent in
+    let x = c.in_ok-requests.requests in
     let e = script_is c.args.text.now c.of-lines.result c.in_ok-read_settings.field-0 (lines_in c.read_settings.new.lines) a.0 o s.answer s.after a.1.0 in
     record {
       answer = (
