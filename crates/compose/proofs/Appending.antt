@@ -1,24 +1,31 @@
--- Bytes that are appended one part after another, and four keys as bytes.
-use Rattle.std.proofs.Common.{◌≡◌, ℕ, List, [], ◌∷◌, ◌++◌, length, refl, ap, ◌∙◌, append_assoc, arith}
-use Rattle.runfile.specs.declared.settings.Settings.{Settings}
-use Rattle.runfile.specs.RunFile.{keys_bytes, settings_bytes}
-use Rattle.compose.specs.Bytes.{head_bytes, four_keys}
+-- Bytes that are appended one after another are appended as one.
+use Rattle.std.proofs.Common.{◌≡◌, ℕ, ◌+◌, ◌*◌, ◌<◌, List, [], ◌∷◌, ◌++◌, length, get_or, take, Vec, append-nil, append_assoc, length-append, sym, refl, ap, ◌∙◌, arith, vec_items}
+use Rattle.std.proofs.lemmas.List.{take_more}
+use Rattle.std.specs.declared.alloc.Global.{Global}
+use Rattle.line.specs.Words.{bytes16}
+use Rattle.runfile.specs.RunFile.{keys_bytes}
+use Rattle.compose.specs.Bytes.{Puts}
 
-pub put_one : (xs ys a b : List ℕ) → ys ≡ xs ++ a → a ≡ b → ys ≡ xs ++ b
-put_one xs ys a b h e = h ∙ ap (λ (z : List ℕ). xs ++ z) e
+pub puts_none : (v : Vec ℕ Global) → Puts v [] v
+puts_none v = record { items = sym (append-nil (vec_items v)); len = omega arith; capacity = omega arith }
 
-pub put_two : (xs ys zs a b c d : List ℕ) → ys ≡ xs ++ a → zs ≡ ys ++ b → a ≡ c → b ≡ d → zs ≡ xs ++ (c ++ d)
-put_two xs ys zs a b c d h k e f =
-    k ∙ ap (λ (z : List ℕ). z ++ b) h ∙ append_assoc xs a b
-    ∙ ap (λ (z : List ℕ). xs ++ (z ++ b)) e ∙ ap (λ (z : List ℕ). xs ++ (c ++ z)) f
+pub puts_twice : {u v w : Vec ℕ Global} {xs ys : List ℕ} → Puts u xs v → Puts v ys w → Puts u (xs ++ ys) w
+puts_twice {u} {v} {w} {xs} {ys} p q =
+    let l = length-append xs ys in
+    record {
+      items = q.items ∙ ap (λ (zs : List ℕ). zs ++ ys) p.items ∙ append_assoc (vec_items u) xs ys;
+      len = omega arith;
+      capacity = omega arith;
+    }
 
-four_are : (ks : List ℕ) → length ks ≡ 4 → four_keys ks ≡ keys_bytes ks
-four_are [] h = absurd (omega arith)
-four_are (a ∷ []) h = absurd (omega arith)
-four_are (a ∷ b ∷ []) h = absurd (omega arith)
-four_are (a ∷ b ∷ c ∷ []) h = absurd (omega arith)
-four_are (a ∷ b ∷ c ∷ d ∷ []) h = refl
-four_are (a ∷ b ∷ c ∷ d ∷ e ∷ ks) h = absurd (omega arith)
+keys_bytes_push : (ks : List ℕ) (k : ℕ) → keys_bytes (ks ++ k ∷ []) ≡ keys_bytes ks ++ bytes16 k
+keys_bytes_push [] k = append-nil (bytes16 k)
+keys_bytes_push (j ∷ ks) k = ap (λ (l : List ℕ). bytes16 j ++ l) (keys_bytes_push ks k) ∙ sym (append_assoc (bytes16 j) (keys_bytes ks) (bytes16 k))
 
-pub settings_are : (s : Settings) → length s.keys ≡ 4 → head_bytes s ++ four_keys s.keys ≡ settings_bytes 0 s
-settings_are s h = ap (λ (z : List ℕ). head_bytes s ++ z) (four_are s.keys h)
+-- one key more
+pub keys_more : (ks : List ℕ) (i : ℕ) → i < length ks → keys_bytes (take (i + 1) ks) ≡ keys_bytes (take i ks) ++ bytes16 (get_or ks i 0)
+keys_more ks i lt = ap keys_bytes (take_more ks i 0 lt) ∙ keys_bytes_push (take i ks) (get_or ks i 0)
+
+pub length_keys : (ks : List ℕ) → length (keys_bytes ks) ≡ 2 * length ks
+length_keys [] = refl
+length_keys (k ∷ ks) = let l = length_keys ks in omega arith

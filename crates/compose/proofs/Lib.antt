@@ -2,7 +2,6 @@ mod Appending
 mod Asking
 mod Between
 mod Cutting
-mod Digits
 mod Exactness
 mod Going
 mod Numerals

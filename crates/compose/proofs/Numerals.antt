@@ -4,13 +4,15 @@ use Rattle.compose.specs.declared.refusal.Wrong.{Wrong}
 use Rattle.compose.specs.declared.refusal.Wrong.TheVariants.{NotANumber, OutOfRange}
 use Rattle.compose.specs.Numerals.{is_digit, longer, number_after, number, positive, negative, integer}
 use Rattle.compose.specs.Says.{Digits, value_after, Numeral, Integer}
-use Rattle.compose.proofs.Digits.{digit_true}
 
 pub ok_err : {X E : Type 0} (x : X) (e : E) → ◌≡◌ {A = Result X E} (Err e) (Ok x) → ⊥
 ok_err x e h = let z : ◌≡◌ {A = ℕ} 0 1 = cc in omega arith
 
 pub ok_ok : {X E : Type 0} (x y : X) → ◌≡◌ {A = Result X E} (Ok x) (Ok y) → x ≡ y
 ok_ok x y h = cc
+
+digit_true : (b : ℕ) → 48 ≤ b → b ≤ 57 → is_digit b ≡ true
+digit_true b h k = ap (λ (t : Bool). t && leb b 57) (le-leb 48 b h) ∙ le-leb b 57 k
 
 -- what the rest of the digits gives
 abbrev Read : ℕ → ℕ → List ℕ → ℕ → Type 0

@@ -9,14 +9,14 @@ use Rattle.compose.specs.declared.text.Lines.{Lines}
 use Rattle.compose.specs.Composing.{Longer}
 use Rattle.compose.specs.Fields.{then}
 use Rattle.compose.specs.Lines.{Entry, entries, last_number}
-use Rattle.compose.specs.Pieces.{pieces, pieces_left}
+use Rattle.compose.specs.Pieces.{pieces, pieces_of}
 use Rattle.compose.specs.Scripts.{Script, asks_in, script_in, script_of, file_of}
 use Rattle.compose.specs.Settings.{settings_in, after_settings}
 use Rattle.compose.specs.Taken.{lines_in, last_in}
 
 -- the lines of a text, none of which is taken yet
 abbrev pub Opened : List ℕ → Lines → Type 0
-Opened text l = (pieces_left 10 l.rest ≡ pieces 10 text) × (l.number ≡ 0)
+Opened text l = (pieces_of l.pieces ≡ pieces 10 text) × (l.number ≡ 0)
 
 opened_script : (text : List ℕ) (l : Lines) → Opened text l → script_of text ≡ script_in (last_in l) (lines_in l)
 opened_script text l o =
@@ -28,9 +28,6 @@ after_settings_are : (last : ℕ) (es : List Entry) (r : Result Settings Fault) 
 after_settings_are last es r h =
     ap (λ (z : Result Settings Fault). then {Y = Script} z (λ s. then (asks_in 0 (after_settings es)) (λ qs. Ok (record { settings = s; asks = qs })))) (sym h)
 
-pub settings_broke : (text : List ℕ) (l : Lines) (f : Fault) → Opened text l → Err f ≡ settings_in (last_in l) (lines_in l) → script_of text ≡ Err f
-settings_broke text l f o h = opened_script text l o ∙ after_settings_are (last_in l) (lines_in l) (Err f) h
-
 -- what the requests give, after the settings
 asks_are : (text : List ℕ) (l : Lines) (s : Settings) (es : List Entry) (r : Result (List Ask) Fault) → Opened text l → Ok s ≡ settings_in (last_in l) (lines_in l)
     → es ≡ after_settings (lines_in l) → asks_in 0 es ≡ r → script_of text ≡ then r (λ qs. Ok (record { settings = s; asks = qs }))
@@ -38,18 +35,11 @@ asks_are text l s es r o h e a =
     opened_script text l o ∙ after_settings_are (last_in l) (lines_in l) (Ok s) h
     ∙ ap (λ (z : Result (List Ask) Fault). then {Y = Script} z (λ qs. Ok (record { settings = s; asks = qs }))) (ap (asks_in 0) (sym e) ∙ a)
 
-pub asks_broke : (text : List ℕ) (l : Lines) (s : Settings) (es : List Entry) (f : Fault) → Opened text l → Ok s ≡ settings_in (last_in l) (lines_in l)
-    → es ≡ after_settings (lines_in l) → asks_in 0 es ≡ Err f → script_of text ≡ Err f
-asks_broke text l s es f o h e a = asks_are text l s es (Err f) o h e a
-
 pub script_is : (text : List ℕ) (l : Lines) (s : Settings) (es : List Entry) (qs : List Ask) → Opened text l → Ok s ≡ settings_in (last_in l) (lines_in l)
     → es ≡ after_settings (lines_in l) → asks_in 0 es ≡ Ok qs → script_of text ≡ Ok (record { settings = s; asks = qs })
 script_is text l s es qs o h e a = asks_are text l s es (Ok qs) o h e a
 
 -- the bytes
-pub longer_twice : (xs ys zs a : List ℕ) → ys ≡ xs ++ a → Longer ys zs → Longer xs zs
-longer_twice xs ys zs a h k = (a ++ k.0, k.1 ∙ ap (λ (z : List ℕ). z ++ k.0) h ∙ append_assoc xs a k.0)
-
 pub file_is : (s : Settings) (qs : List Ask) (size number : ℕ) (xs ys zs ws : List ℕ) → ys ≡ xs ++ settings_bytes 0 s → zs ≡ ys ++ asks_bytes qs → ws ≡ zs ++ trailer_bytes size number
     → size ≡ length (asks_bytes qs) → number ≡ length qs → ws ≡ xs ++ file_of (record { settings = s; asks = qs })
 file_is s qs size number xs ys zs ws h k m es en =
@@ -60,7 +50,3 @@ file_is s qs size number xs ys zs ws h k m es en =
     ∙ append_assoc (xs ++ a) b t ∙ append_assoc xs a (b ++ t)
     ∙ ap (λ (n : ℕ). xs ++ (a ++ (b ++ trailer_bytes n number))) es
     ∙ ap (λ (n : ℕ). xs ++ (a ++ (b ++ trailer_bytes (length b) n))) en
-
--- what was appended is taken away again
-pub taken_away : (xs ys : List ℕ) (n : ℕ) → length xs ≡ n → Longer xs ys → take n ys ≡ xs
-taken_away xs ys n h k = ap (take n) k.1 ∙ take_at xs k.0 n h

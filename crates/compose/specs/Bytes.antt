@@ -1,12 +1,13 @@
--- The bytes of the settings, in two parts. Assumes nothing.
-use Rattle.std.specs.Prelude.{ℕ, List, ◌∷◌, ◌++◌, slice_index}
-use Rattle.line.specs.Words.{bytes16, bytes32}
-use Rattle.runfile.specs.declared.settings.Settings.{Settings}
+-- Bytes that are appended to a vector in which there is room for them. Assumes nothing.
+use Rattle.std.specs.Prelude.{◌≡◌, ℕ, ◌+◌, ◌≤◌, List, ◌++◌, length, vec_items, vec_len, vec_capacity, Vec}
+use Rattle.std.specs.declared.alloc.Global.{Global}
 
--- before the keys
-abbrev pub head_bytes : Settings → List ℕ
-head_bytes s = s.pile ∷ s.regions ∷ (bytes16 s.interval ++ (bytes16 s.lines ++ (s.n ∷ 0 ∷ bytes32 s.life)))
+-- there is room for n bytes more
+abbrev pub HasRoom : Vec ℕ Global → ℕ → Type 0
+HasRoom v n = vec_len v + n ≤ vec_capacity v
 
--- four keys
-abbrev pub four_keys : List ℕ → List ℕ
-four_keys ks = bytes16 (slice_index ks 0) ++ (bytes16 (slice_index ks 1) ++ (bytes16 (slice_index ks 2) ++ bytes16 (slice_index ks 3)))
+-- the bytes were appended, and took no more room than they need
+pub record Puts (before : Vec ℕ Global) (bytes : List ℕ) (after : Vec ℕ Global) : Type 0 where
+  pub items : vec_items after ≡ vec_items before ++ bytes
+  pub len : vec_len after ≡ vec_len before + length bytes
+  pub capacity : vec_capacity before ≤ vec_capacity after

@@ -3,7 +3,7 @@ use Rattle.std.specs.Prelude.{◌≡◌, ℕ, ◌+◌, ◌<◌, ◌≤◌, List,
 use Rattle.std.specs.declared.alloc.Global.{Global}
 use Rattle.runfile.specs.Asks.{Ask}
 use Rattle.runfile.specs.RunFile.{asks_bytes}
-use Rattle.compose.specs.declared.compose.Extent.{Extent}
+use Rattle.compose.specs.declared.bytes.Extent.{Extent}
 use Rattle.compose.specs.declared.refusal.Fault.{Fault}
 use Rattle.compose.specs.declared.refusal.Refusal.{Refusal}
 use Rattle.compose.specs.declared.refusal.Refusal.TheVariants.{NoMemory, Text}

@@ -1,7 +1,7 @@
 -- The lines that say something, with their numbers. Assumes nothing.
 use Rattle.std.specs.Prelude.{◌≡◌, ℕ, ◌+◌, ◌-◌, ◌^◌, min, Bool, false, cond, not, List, [], ◌∷◌, Some, None, Option, ◌==◌, slice_index}
-use Rattle.compose.specs.declared.text.Words.{Words}
-use Rattle.compose.specs.Pieces.{words, words_left}
+use Rattle.compose.specs.declared.text.Line.{Line}
+use Rattle.compose.specs.Pieces.{words, words_of}
 
 -- a line that says something: its number and its words
 pub record Entry : Type 0 where
@@ -28,10 +28,10 @@ abbrev pub last_number : ℕ → List (List ℕ) → ℕ
 last_number n [] = n
 last_number n (l ∷ ls) = last_number (next_number n) ls
 
-abbrev pub entry_of : Words → Entry
-entry_of w = record { number = w.line; words = words_left w.rest }
+abbrev pub entry_of : Line → Entry
+entry_of l = record { number = l.number; words = words_of l.words }
 
--- the words of a line handed out, or none, between the lines ls after line n and the lines ls' after line n'
-abbrev pub HandedLine : ℕ → List (List ℕ) → Option Words → ℕ → List (List ℕ) → Type 0
+-- a line handed out, or none, between the lines ls after line n and the lines ls' after line n'
+abbrev pub HandedLine : ℕ → List (List ℕ) → Option Line → ℕ → List (List ℕ) → Type 0
 HandedLine n ls None n' ls' = (entries n ls ≡ []) × (ls' ≡ []) × (n' ≡ last_number n ls)
-HandedLine n ls (Some w) n' ls' = (entries n ls ≡ entry_of w ∷ entries n' ls') × (last_number n' ls' ≡ last_number n ls)
+HandedLine n ls (Some l) n' ls' = (entries n ls ≡ entry_of l ∷ entries n' ls') × (last_number n' ls' ≡ last_number n ls)

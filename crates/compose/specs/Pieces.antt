@@ -1,6 +1,8 @@
 -- Lines and words: what stands between newlines, and what stands between spaces. Assumes nothing.
-use Rattle.std.specs.Prelude.{◌≡◌, ℕ, suc, ◌<◌, cond, List, [], ◌∷◌, ◌++◌, length, Some, None, Option, ◌==◌, ◌≢◌}
+use Rattle.std.specs.Prelude.{◌≡◌, ℕ, ◌<◌, cond, List, [], ◌∷◌, ◌++◌, length, Some, None, Option, ◌==◌, ◌≢◌}
 use Rattle.std.specs.Borrow.{Bor}
+use Rattle.compose.specs.declared.text.Pieces.{Pieces}
+use Rattle.compose.specs.declared.text.Words.{Words}
 
 -- b put before the first piece
 abbrev pub onto : ℕ → List (List ℕ) → List (List ℕ)
@@ -52,15 +54,8 @@ abbrev pub pieces_left : ℕ → Option (Bor (List ℕ)) → List (List ℕ)
 pieces_left stop None = []
 pieces_left stop (Some bs) = pieces stop bs.now
 
-abbrev pub words_left : Option (Bor (List ℕ)) → List (List ℕ)
-words_left bs = some (pieces_left 32 bs)
+abbrev pub pieces_of : Pieces → List (List ℕ)
+pieces_of p = pieces_left p.stop p.rest
 
--- how much is left
-abbrev pub size_left : Option (Bor (List ℕ)) → ℕ
-size_left None = 0
-size_left (Some bs) = suc (length bs.now)
-
--- a word handed out, or none, and the words that are then left
-abbrev pub Handed : List (List ℕ) → Option (Bor (List ℕ)) → List (List ℕ) → Type 0
-Handed ws None left = (ws ≡ []) × (left ≡ [])
-Handed ws (Some w) left = ws ≡ w.now ∷ left
+abbrev pub words_of : Words → List (List ℕ)
+words_of w = some (pieces_of w.pieces)

@@ -5,7 +5,7 @@ use Rattle.runfile.specs.RunFile.{written}
 use Rattle.runfile.specs.declared.settings.Settings.{Settings}
 use Rattle.compose.specs.declared.refusal.Fault.{Fault}
 use Rattle.compose.specs.declared.refusal.Wrong.TheVariants.{TooLong}
-use Rattle.compose.specs.Fields.{at, then, request_in, request_size, ask_of}
+use Rattle.compose.specs.Fields.{at, then, at_line, request_in, request_size, ask_of}
 use Rattle.compose.specs.Lines.{Entry, entries, last_number}
 use Rattle.compose.specs.Pieces.{pieces}
 use Rattle.compose.specs.Settings.{settings_in, after_settings}
@@ -14,7 +14,7 @@ use Rattle.compose.specs.Settings.{settings_in, after_settings}
 abbrev pub asks_in : ℕ → List Entry → Result (List Ask) Fault
 asks_in size [] = Ok []
 asks_in size (e ∷ es) =
-    then (request_in e.number e.words) (λ q.
+    then (at_line e.number (request_in e.words)) (λ q.
     cond (nat_le (size + request_size q) 65500)
     (then (asks_in (size + request_size q) es) (λ qs. Ok (ask_of q ∷ qs)))
     (Err (at e.number TooLong)))

@@ -2,12 +2,13 @@
 use Rattle.std.specs.Prelude.{ℕ, Bool, false, cond, List, [], ◌∷◌, Ok, Err, codes, Result}
 use Rattle.std.specs.Str.{bytes_eq}
 use Rattle.runfile.specs.declared.settings.Settings.{Settings}
+use Rattle.compose.specs.declared.fields.Letter.{Letter}
 use Rattle.compose.specs.declared.refusal.Fault.{Fault}
 use Rattle.compose.specs.declared.refusal.Setting.{Setting}
 use Rattle.compose.specs.declared.refusal.Setting.TheVariants.{Pile, Regions, Interval, Lines, N, Life, Keys}
 use Rattle.compose.specs.declared.refusal.Wrong.{Wrong}
 use Rattle.compose.specs.declared.refusal.Wrong.TheVariants.{Expected, NotALetter}
-use Rattle.compose.specs.Fields.{at, then, first, tail, ended}
+use Rattle.compose.specs.Fields.{at, then, at_line, first, tail, ended}
 use Rattle.compose.specs.Lines.{Entry}
 use Rattle.compose.specs.Numerals.{number}
 
@@ -37,33 +38,31 @@ others [] = []
 others (e ∷ es) = es
 
 -- a pile's letter is any one byte
-abbrev pub letter : List ℕ → Result ℕ Wrong
+abbrev pub letter : List ℕ → Result Letter Wrong
 letter [] = Err NotALetter
-letter (b ∷ []) = Ok b
+letter (b ∷ []) = Ok (record { 0 = b })
 letter (b ∷ c ∷ bs) = Err NotALetter
 
-abbrev pub pile_in : ℕ → List Entry → Result ℕ Fault
-pile_in last es =
-    then (named Pile last es) (λ e.
-    then (first letter e.number e.words) (λ pile.
-    then (ended e.number (tail e.words)) (λ _. Ok pile)))
+-- what the only word spells
+abbrev pub lone : {X : Type 0} → (List ℕ → Result X Wrong) → List (List ℕ) → Result X Wrong
+lone f ws = then (first f ws) (λ x. then (ended (tail ws)) (λ _. Ok x))
 
--- a setting that is one number
-abbrev pub setting_in : Setting → ℕ → ℕ → List Entry → Result ℕ Fault
-setting_in s greatest last es =
-    then (named s last es) (λ e.
-    then (first (number greatest) e.number e.words) (λ n.
-    then (ended e.number (tail e.words)) (λ _. Ok n)))
+-- four numbers
+abbrev pub four_in : List (List ℕ) → Result (List ℕ) Wrong
+four_in ws =
+    then (first (number 65535) ws) (λ a.
+    then (first (number 65535) (tail ws)) (λ b.
+    then (first (number 65535) (tail (tail ws))) (λ c.
+    then (first (number 65535) (tail (tail (tail ws)))) (λ d.
+    then (ended (tail (tail (tail (tail ws))))) (λ _. Ok (a ∷ b ∷ c ∷ d ∷ []))))))
+
+-- a setting that is one word
+abbrev pub setting_in : {X : Type 0} → Setting → (List ℕ → Result X Wrong) → ℕ → List Entry → Result X Fault
+setting_in s f last es = then (named s last es) (λ e. at_line e.number (lone f e.words))
 
 -- the four keys
 abbrev pub keys_in : ℕ → List Entry → Result (List ℕ) Fault
-keys_in last es =
-    then (named Keys last es) (λ e.
-    then (first (number 65535) e.number e.words) (λ a.
-    then (first (number 65535) e.number (tail e.words)) (λ b.
-    then (first (number 65535) e.number (tail (tail e.words))) (λ c.
-    then (first (number 65535) e.number (tail (tail (tail e.words)))) (λ d.
-    then (ended e.number (tail (tail (tail (tail e.words))))) (λ _. Ok (a ∷ b ∷ c ∷ d ∷ [])))))))
+keys_in last es = then (named Keys last es) (λ e. at_line e.number (four_in e.words))
 
 -- what is left after the seven lines
 abbrev pub after_settings : List Entry → List Entry
@@ -71,11 +70,11 @@ after_settings es = others (others (others (others (others (others (others es)))
 
 abbrev pub settings_in : ℕ → List Entry → Result Settings Fault
 settings_in last es =
-    then (pile_in last es) (λ pile.
-    then (setting_in Regions 255 last (others es)) (λ regions.
-    then (setting_in Interval 65535 last (others (others es))) (λ interval.
-    then (setting_in Lines 65535 last (others (others (others es)))) (λ lines.
-    then (setting_in N 255 last (others (others (others (others es))))) (λ n.
-    then (setting_in Life 4294967295 last (others (others (others (others (others es)))))) (λ life.
+    then (setting_in Pile letter last es) (λ pile.
+    then (setting_in Regions (number 255) last (others es)) (λ regions.
+    then (setting_in Interval (number 65535) last (others (others es))) (λ interval.
+    then (setting_in Lines (number 65535) last (others (others (others es)))) (λ lines.
+    then (setting_in N (number 255) last (others (others (others (others es))))) (λ n.
+    then (setting_in Life (number 4294967295) last (others (others (others (others (others es)))))) (λ life.
     then (keys_in last (others (others (others (others (others (others es))))))) (λ keys.
-    Ok (record { pile = pile; regions = regions; interval = interval; lines = lines; n = n; life = life; keys = keys }))))))))
+    Ok (record { pile = pile.0; regions = regions; interval = interval; lines = lines; n = n; life = life; keys = keys }))))))))

@@ -1,12 +1,13 @@
 //! A run file out of a text.
 
-ghost use Rattle.std.specs.Prelude.{◌+◌, ◌≤◌, vec_len, vec_capacity};
+ghost use Rattle.std.specs.Prelude.{◌≤◌, vec_capacity};
+ghost use Rattle.compose.specs.Bytes.{HasRoom};
 ghost use Rattle.compose.specs.Composing.{Appended, Composed, Written};
 ghost use Rattle.compose.specs.Pieces.{Cuts};
 ghost use Rattle.compose.specs.Says.{Exact, Fitting, OneMeaning};
 ghost use Rattle.compose.specs.Taken.{lines_in};
 
-use crate::bytes::{put_request, put_settings, put_trailer};
+use crate::bytes::{Extent, put_request, put_settings, put_trailer};
 use crate::refusal::{Fault, Refusal, Wrong};
 use crate::requests::read_request;
 use crate::settings::read_settings;
@@ -14,31 +15,23 @@ use crate::text::Lines;
 use runfile::lengths;
 
 // The most bytes that requests may have: what the longest run file has besides its settings and its trailer.
-const MOST: u32 = 65500;
-
-// How many bytes the requests have in the file, and how many there are.
-#[derive(Clone, Copy)]
-struct Extent {
-    size: u32,
-    number: u32,
-}
+const MOST: usize = lengths::LONGEST - lengths::SETTINGS - lengths::TRAILER;
 
 // Appends the requests of all lines that are left.
-fn append_requests(lines: &mut Lines, file: &mut Vec<u8>) -> Result<Extent, Fault>
-    requires room { vec_len file.old + 65500 ≤ vec_capacity file.old }
-    ensures answer { Appended (lines_in lines.old) file.old.items result file.new.items }
+fn append_requests(lines: Lines, file: &mut Vec<u8>) -> Result<Extent, Fault>
+    requires room { HasRoom file.old 65500 }
+    ensures answer { Appended (lines_in lines.entry) file.old.items result file.new.items }
     ensures capacity { vec_capacity file.old ≤ vec_capacity file.new }
 {
-    let mut size: u32 = 0;
-    let mut number: u32 = 0;
-    while let Some(words) = lines.next() {
-        let request = read_request(words)?;
-        let longer = size + request.size();
-        if longer > MOST {
-            return Err(words.fault(Wrong::TooLong));
+    let mut size = 0;
+    let mut number = 0;
+    for line in lines {
+        let request = line.locate(read_request(line.words))?;
+        size += request.size();
+        if size > MOST {
+            return Err(line.fault(Wrong::TooLong));
         }
         put_request(file, request);
-        size = longer;
         number += 1;
     }
     Ok(Extent { size, number })
@@ -46,14 +39,13 @@ fn append_requests(lines: &mut Lines, file: &mut Vec<u8>) -> Result<Extent, Faul
 
 // Appends the run file that a text says. Where it says none, whatever was appended is to be taken away again.
 fn append_run(text: &[u8], file: &mut Vec<u8>) -> Result<(), Fault>
-    requires room { vec_len file.old + 65536 ≤ vec_capacity file.old }
+    requires room { HasRoom file.old 65536 }
     ensures answer { Written text.now file.old.items result file.new.items }
 {
     let mut lines = Lines::of(text);
-    let settings = read_settings(&mut lines)?;
-    put_settings(file, settings);
-    let extent = append_requests(&mut lines, file)?;
-    put_trailer(file, extent.size, extent.number);
+    put_settings(file, read_settings(&mut lines)?);
+    let requests = append_requests(lines, file)?;
+    put_trailer(file, requests);
     Ok(())
 }
 
@@ -66,15 +58,11 @@ pub fn compose(text: &[u8], file: &mut Vec<u8>) -> Result<(), Refusal>
     ensures fits { Fitting text.now }
     ensures cuts { Cuts }
 {
-    if file.reserve(lengths::LONGEST).is_err() {
-        return Err(Refusal::NoMemory);
-    }
+    file.reserve(lengths::LONGEST)?;
     let start = file.len();
-    match append_run(text, file) {
-        Ok(()) => Ok(()),
-        Err(fault) => {
-            file.truncate(start);
-            Err(Refusal::Text(fault))
-        }
+    let answer = append_run(text, file);
+    if answer.is_err() {
+        file.truncate(start);
     }
+    Ok(answer?)
 }

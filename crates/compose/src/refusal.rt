@@ -1,10 +1,14 @@
 //! Why a text makes no run file.
 
 ghost use Rattle.std.specs.Prelude.{◌≡◌};
+ghost use Rattle.compose.specs.declared.refusal.Refusal.TheVariants.{NoMemory, Text};
 ghost use Rattle.compose.specs.Settings.{name_of};
 
+use std::alloc::AllocError;
+use std::error::Error;
+
 /// The settings, in the order of their lines.
-#[derive(Clone, Copy)]
+#[derive(Clone, Copy, Debug, PartialEq, Eq)]
 pub enum Setting {
     Pile,
     Regions,
@@ -33,7 +37,7 @@ impl Setting {
 }
 
 /// What is wrong with a line.
-#[derive(Clone, Copy)]
+#[derive(Clone, Copy, Debug, PartialEq, Eq)]
 pub enum Wrong {
     /// The line of this setting should stand here.
     Expected(Setting),
@@ -54,7 +58,7 @@ pub enum Wrong {
 }
 
 /// Something that is wrong with a text.
-#[derive(Clone, Copy)]
+#[derive(Clone, Copy, Debug, PartialEq, Eq)]
 pub struct Fault {
     /// The number of the line; the first line has the number 1.
     pub line: usize,
@@ -63,10 +67,28 @@ pub struct Fault {
 }
 
 /// Why no run file is made.
-#[derive(Clone, Copy)]
+#[derive(Clone, Copy, Debug, PartialEq, Eq)]
 pub enum Refusal {
     /// There is no memory for the longest run file.
     NoMemory,
     /// The text has a fault.
     Text(Fault),
+}
+
+impl Error for Refusal {}
+
+impl From<AllocError> for Refusal {
+    ghost from_gives = { λ _ r. r ≡ NoMemory };
+
+    fn from(_error: AllocError) -> Refusal {
+        Refusal::NoMemory
+    }
+}
+
+impl From<Fault> for Refusal {
+    ghost from_gives = { λ f r. r ≡ Text f };
+
+    fn from(fault: Fault) -> Refusal {
+        Refusal::Text(fault)
+    }
 }

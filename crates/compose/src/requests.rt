@@ -2,11 +2,12 @@
 
 ghost use Rattle.std.specs.Prelude.{◌≡◌, OnOk};
 ghost use Rattle.compose.specs.Fields.{after_load, load_in, read_in, request_in, request_size, write_in};
-ghost use Rattle.compose.specs.Pieces.{words_left};
+ghost use Rattle.compose.specs.Pieces.{words_of};
 
-use crate::refusal::{Fault, Wrong};
-use crate::text::{Words, same};
+use crate::refusal::Wrong;
+use crate::text::Words;
 use line::load::{Activity, Load};
+use runfile::lengths;
 
 /// A request.
 #[derive(Clone, Copy)]
@@ -19,50 +20,44 @@ pub(crate) enum Request {
 
 impl Request {
     /// How many bytes the request has in a run file.
-    pub(crate) fn size(self) -> u32
+    pub(crate) fn size(self) -> usize
         ensures size { result ≡ request_size self }
     {
         match self {
-            Request::Read { line: _ } => 3,
-            Request::Write { line: _, load: _ } => 19,
+            Request::Read { .. } => lengths::READ,
+            Request::Write { .. } => lengths::WRITE,
         }
     }
 }
 
 // The load that the next five words spell.
-fn read_load(words: &mut Words) -> Result<Load, Fault>
-    ensures answer { result ≡ load_in words.old.line (words_left words.old.rest) }
-    ensures after { OnOk result (words_left words.new.rest ≡ after_load (words_left words.old.rest)) }
-    ensures line { words.new.line ≡ words.old.line }
+fn read_load(words: &mut Words) -> Result<Load, Wrong>
+    ensures answer { result ≡ load_in (words_of words.old) }
+    ensures after { OnOk result (words_of words.new ≡ after_load (words_of words.old)) }
 {
-    let time = words.number(u32::MAX)?;
-    let east = words.integer()?;
-    let north = words.integer()?;
-    let tonnes = words.number(0xffff)? as u16;
-    let activity = words.number(0xff)? as u8;
     Ok(Load {
-        time,
-        east,
-        north,
-        tonnes,
-        activity: Activity(activity),
+        time: words.field()?,
+        east: words.field()?,
+        north: words.field()?,
+        tonnes: words.field()?,
+        activity: Activity(words.field()?),
     })
 }
 
 // The request to read that the words after its letter spell.
-fn read_fields(mut words: Words) -> Result<Request, Fault>
-    ensures answer { result ≡ read_in words.entry.line (words_left words.entry.rest) }
+fn read_fields(mut words: Words) -> Result<Request, Wrong>
+    ensures answer { result ≡ read_in (words_of words.entry) }
 {
-    let line = words.number(0xffff)? as u16;
+    let line = words.field()?;
     words.end()?;
     Ok(Request::Read { line })
 }
 
 // The request to write that the words after its letter spell.
-fn write_fields(mut words: Words) -> Result<Request, Fault>
-    ensures answer { result ≡ write_in words.entry.line (words_left words.entry.rest) }
+fn write_fields(mut words: Words) -> Result<Request, Wrong>
+    ensures answer { result ≡ write_in (words_of words.entry) }
 {
-    let line = words.number(0xffff)? as u16;
+    let line = words.field()?;
     let load = read_load(&mut words)?;
     words.end()?;
     Ok(Request::Write { line, load })
@@ -70,15 +65,12 @@ fn write_fields(mut words: Words) -> Result<Request, Fault>
 
 /// The request that a line spells: `r LINE` or `w LINE TIME EAST NORTH TONNES ACTIVITY`. Refused where the first word is another, where
 /// a word is missing or left over, and where one is no number or is out of its range: whichever comes first.
-pub(crate) fn read_request(mut words: Words) -> Result<Request, Fault>
-    ensures answer { result ≡ request_in words.entry.line (words_left words.entry.rest) }
+pub(crate) fn read_request(mut words: Words) -> Result<Request, Wrong>
+    ensures answer { result ≡ request_in (words_of words.entry) }
 {
-    let name = words.word()?;
-    if same(name, "r") {
-        read_fields(words)
-    } else if same(name, "w") {
-        write_fields(words)
-    } else {
-        Err(words.fault(Wrong::UnknownRequest))
+    match words.word()? {
+        b"r" => read_fields(words),
+        b"w" => write_fields(words),
+        _ => Err(Wrong::UnknownRequest),
     }
 }

@@ -1,106 +1,183 @@
 //! The lines of a text and the words of a line.
 
-ghost use Rattle.std.specs.Prelude.{◌≡◌, ◌≤◌, ◌∷◌, length};
-ghost use Rattle.std.specs.Str.{bytes_eq};
-ghost use Rattle.compose.specs.Lines.{HandedLine, is_entry};
-ghost use Rattle.compose.specs.Pieces.{Handed, pieces, pieces_left, size_left, words, words_left};
+ghost use Rattle.std.specs.Prelude.{◌≡◌, Ok};
+ghost use Rattle.std.specs.Iterator.{YieldsFirstRef, item_count};
+ghost use Rattle.compose.specs.Fields.{Takes, at, at_line, ended, seen};
+ghost use Rattle.compose.specs.Lines.{HandedLine, entry_of, is_entry};
+ghost use Rattle.compose.specs.Pieces.{pieces, pieces_of, words, words_of};
+ghost use Rattle.compose.specs.Taken.{lines_in};
 
-// What stands before the first `stop`, and what stands after it: nothing is left where there is no stop.
-fn cut(bytes: &[u8], stop: u8) -> (&[u8], Option<&[u8]>)
-    ensures pieces { pieces stop bytes.now ≡ result.0.now ∷ pieces_left stop result.1 }
-    ensures bound { size_left result.1 ≤ length bytes.now }
-{
-    for (i, byte) in bytes.iter().enumerate() {
-        if *byte == stop {
-            return (&bytes[0..i], Some(&bytes[i + 1..]));
+use crate::fields::Field;
+use crate::refusal::{Fault, Wrong};
+
+/// What is left of the pieces that the stops part.
+#[derive(Clone, Copy)]
+pub(crate) struct Pieces<'a> {
+    pub(crate) rest: Option<&'a [u8]>,
+    pub(crate) stop: u8,
+}
+
+impl<'a> Pieces<'a> {
+    // The pieces of bytes.
+    fn of(bytes: &'a [u8], stop: u8) -> Pieces<'a>
+        ensures pieces { pieces_of result ≡ pieces stop bytes.now }
+    {
+        Pieces {
+            rest: Some(bytes),
+            stop,
         }
     }
-    (bytes, None)
 }
 
-/// Whether a word is this text.
-pub(crate) fn same(word: &[u8], text: &str) -> bool
-    ensures answer { result ≡ bytes_eq word.now text.now }
-{
-    word == text.as_bytes()
+impl<'a> Iterator for Pieces<'a> {
+    type Item = &'a [u8];
+
+    ghost next_gives = { YieldsFirstRef pieces_of };
+
+    ghost remaining = { item_count pieces_of };
+
+    fn next(&mut self) -> Option<&'a [u8]> {
+        let rest = self.rest?;
+        let stop = self.stop;
+        match rest.iter().position(|byte| *byte == stop) {
+            Some(i) => {
+                self.rest = Some(&rest[i + 1..]);
+                Some(&rest[..i])
+            }
+            None => {
+                self.rest = None;
+                Some(rest)
+            }
+        }
+    }
 }
 
-/// The words that are left of a line, and the line's number.
+/// The words that are left of a line: the pieces between spaces that are not empty.
 #[derive(Clone, Copy)]
 pub(crate) struct Words<'a> {
-    pub(crate) rest: Option<&'a [u8]>,
-    pub(crate) line: usize,
+    pub(crate) pieces: Pieces<'a>,
+}
+
+impl<'a> Iterator for Words<'a> {
+    type Item = &'a [u8];
+
+    ghost next_gives = { YieldsFirstRef words_of };
+
+    ghost remaining = { item_count words_of };
+
+    fn next(&mut self) -> Option<&'a [u8]> {
+        self.pieces.find(|word| !word.is_empty())
+    }
 }
 
 impl<'a> Words<'a> {
-    /// The words of a line of this number.
-    pub(crate) fn of(bytes: &'a [u8], line: usize) -> Words<'a>
-        ensures words { words_left result.rest ≡ words bytes.now }
-        ensures line { result.line ≡ line }
+    /// The next word. Refused where none is left.
+    pub(crate) fn word(&mut self) -> Result<&'a [u8], Wrong>
+        ensures answer { Takes Ok self.old (seen result) self.new }
     {
-        Words {
-            rest: Some(bytes),
-            line,
+        self.next().ok_or(Wrong::MissingWord)
+    }
+
+    /// What the next word spells. Refused where no word is left, and where the word spells nothing of this type.
+    pub(crate) fn field<F: Field>(&mut self) -> Result<F, Wrong>
+        ensures answer { Takes F.spelled self.old result self.new }
+    {
+        F::read(self.word()?)
+    }
+
+    /// Refused where a word is left.
+    pub(crate) fn end(mut self) -> Result<(), Wrong>
+        ensures answer { result ≡ ended (words_of self.entry) }
+    {
+        match self.next() {
+            Some(_) => Err(Wrong::ExtraWord),
+            None => Ok(()),
+        }
+    }
+}
+
+/// A line's number, and the words that are left of it.
+#[derive(Clone, Copy)]
+pub(crate) struct Line<'a> {
+    pub(crate) number: usize,
+    pub(crate) words: Words<'a>,
+}
+
+impl<'a> Line<'a> {
+    // The line of this number.
+    fn of(bytes: &'a [u8], number: usize) -> Line<'a>
+        ensures line { entry_of result ≡ record { number = number; words = words bytes.now } }
+    {
+        Line {
+            number,
+            words: Words {
+                pieces: Pieces::of(bytes, b' '),
+            },
         }
     }
 
-    /// Whether the line says something: there is a word, and the first does not begin with #.
-    pub(crate) fn is_entry(self) -> bool
-        ensures answer { result ≡ is_entry (words_left self.entry.rest) }
+    // Whether the line says something: there is a word, and the first does not begin with #.
+    fn is_entry(mut self) -> bool
+        ensures answer { result ≡ is_entry (words_of self.entry.words) }
     {
-        let mut words = self;
-        match words.next() {
-            Some(word) => !word.starts_with(b"#"),
-            None => false,
+        self.words
+            .next()
+            .is_some_and(|word| !word.starts_with(b"#"))
+    }
+
+    /// The fault of this line.
+    pub(crate) fn fault(self, wrong: Wrong) -> Fault
+        ensures fault { result ≡ at self.entry.number wrong }
+    {
+        Fault {
+            line: self.number,
+            wrong,
         }
     }
 
-    /// The next word, or nothing where none is left.
-    pub(crate) fn next(&mut self) -> Option<&'a [u8]>
-        ensures words { Handed (words_left self.old.rest) result (words_left self.new.rest) }
-        ensures line { self.new.line ≡ self.old.line }
+    /// An answer that was found in this line, where it is a refusal as a fault of the line.
+    pub(crate) fn locate<T>(self, answer: Result<T, Wrong>) -> Result<T, Fault>
+        ensures answer { result ≡ at_line self.entry.number answer }
     {
-        while let Some(rest) = self.rest {
-            let (word, after) = cut(rest, b' ');
-            self.rest = after;
-            if !word.is_empty() {
-                return Some(word);
-            }
-        }
-        None
+        let line = self.number;
+        answer.map_err(|wrong| Fault { line, wrong })
     }
 }
 
 /// The lines that are left of a text, and the number of the last line that was looked at.
 #[derive(Clone, Copy)]
 pub(crate) struct Lines<'a> {
-    pub(crate) rest: Option<&'a [u8]>,
+    pub(crate) pieces: Pieces<'a>,
     pub(crate) number: usize,
 }
 
 impl<'a> Lines<'a> {
     /// The lines of a text.
     pub(crate) fn of(text: &'a [u8]) -> Lines<'a>
-        ensures lines { pieces_left 10 result.rest ≡ pieces 10 text.now }
+        ensures lines { pieces_of result.pieces ≡ pieces 10 text.now }
         ensures number { result.number ≡ 0 }
     {
         Lines {
-            rest: Some(text),
+            pieces: Pieces::of(text, b'\n'),
             number: 0,
         }
     }
+}
 
-    /// The words of the next line that has any and is no comment, or nothing where no such line is left.
-    pub(crate) fn next(&mut self) -> Option<Words<'a>>
-        ensures lines { HandedLine self.old.number (pieces_left 10 self.old.rest) result self.new.number (pieces_left 10 self.new.rest) }
-    {
-        while let Some(rest) = self.rest {
-            let (line, after) = cut(rest, b'\n');
-            self.rest = after;
+/// The lines that have a word and are no comment.
+impl<'a> Iterator for Lines<'a> {
+    type Item = Line<'a>;
+
+    ghost next_gives = { λ s r t. HandedLine s.number (pieces_of s.pieces) r t.number (pieces_of t.pieces) };
+
+    ghost remaining = { item_count lines_in };
+
+    fn next(&mut self) -> Option<Line<'a>> {
+        while let Some(bytes) = self.pieces.next() {
             self.number = self.number.saturating_add(1);
-            let words = Words::of(line, self.number);
-            if words.is_entry() {
-                return Some(words);
+            let line = Line::of(bytes, self.number);
+            if line.is_entry() {
+                return Some(line);
             }
         }
         None

@@ -2,7 +2,6 @@
 
 #![tactic(auto)]
 
-use anyhow::anyhow;
 use compose::compose::compose;
 use runfile::lengths;
 use std::io::{Read, Write};
@@ -14,9 +13,7 @@ fn make(rt: &HostRuntime) -> anyhow::Result<()> {
     let mut text = Vec::new(heap);
     rt.stdin().read_to_end(&mut text)?;
     let mut file = Vec::with_capacity(heap, lengths::LONGEST)?;
-    if let Err(refusal) = compose(&text, &mut file) {
-        return Err(anyhow!(format!(in heap; "{refusal}")?));
-    }
+    compose(&text, &mut file)?;
     rt.stdout().write_all(&file)?;
     Ok(())
 }

@@ -1,6 +1,8 @@
--- The trailer is appended as it is.
-use Rattle.compose.proofs.Appending.{put_one}
+-- One number after another, and the mark.
+use Rattle.compose.proofs.Appending.{puts_twice}
 use Rattle.compose.proofs.bytes.put_trailer.Goals as goal
 
 pub returns : goal.returns
-returns c = record { items = put_one _ _ _ _ c.put.ensures.items c.trailer.ensures.bytes }
+returns c =
+    let put = puts_twice (puts_twice (puts_twice c.put.ensures.put c.put-2.ensures.put) c.put-3.ensures.put) c.put-4.ensures.put in
+    record { put = rw (c.to_le_bytes.ensures, c.to_le_bytes-2.ensures, c.to_le_bytes-3.ensures) at put }

@@ -1,33 +1,45 @@
--- What was appended before a fault is taken away again; the theorems are those of the text.
-use Rattle.std.proofs.Common.{◌≡◌, ℕ, List, ◌++◌, length, vec_items, sym, ap, ◌∙◌, rules}
-use Rattle.compose.specs.Scripts.{Script, file_of}
+-- The theorems are those of the text.
+use Rattle.std.proofs.Common.{Ok, arith}
+use Rattle.std.proofs.lemmas.Grind.{common_steps}
+use Rattle.compose.specs.Composing.{Composed}
 use Rattle.compose.proofs.Between.{cuts}
-use Rattle.compose.proofs.Exactness.{script_says, fault_says_nothing, one_meaning}
+use Rattle.compose.proofs.Exactness.{exact, one_meaning}
 use Rattle.compose.proofs.Widths.{fitting}
-use Rattle.compose.proofs.Whole.{taken_away}
 use Rattle.compose.proofs.compose.compose.Goals as goal
 
-pub returns-then-is_err : goal.returns-then-is_err
-returns-then-is_err c = record { answer = search rules; exact = tt; one = one_meaning c.args.text.now; fits = fitting c.args.text.now; cuts = cuts }
+pub returns-in_err-reserve-clause-one : goal.returns-in_err-reserve-clause-one
+returns-in_err-reserve-clause-one c = one_meaning c.args.text.now
 
-pub returns-in-Ok : goal.returns-in-Ok
-returns-in-Ok c =
-    let text = c.args.text.now in
-    let a = c.in-Ok.ensures.answer in
-    let x : Script = a.0 in
-    let items : vec_items c.append_run.new.file ≡ vec_items c.args.file.now ++ file_of x = a.1.1 ∙ ap (λ (z : List ℕ). z ++ file_of x) c.reserve.ensures.items in
-    let t = script_says text x a.1.0 in
-    record { answer = (x, (a.1.0, items)); exact = (x.settings, (x.asks, (t.0, items, t.1))); one = one_meaning text; fits = fitting c.args.text.now; cuts = cuts }
+pub returns-in_err-reserve-clause-fits : goal.returns-in_err-reserve-clause-fits
+returns-in_err-reserve-clause-fits c = fitting c.args.text.now
 
-pub returns-in-Err : goal.returns-in-Err
-returns-in-Err c =
-    let v = c.reserve.new.self in
-    let a = c.in-Err.ensures.answer in
-    let n : length (vec_items v) ≡ c.len-start.result = sym v.ok.0 ∙ sym c.len-start.ensures in
-    record {
-      answer = (a.0, c.truncate.ensures.items ∙ taken_away (vec_items v) _ c.len-start.result n a.1 ∙ c.reserve.ensures.items);
-      exact = fault_says_nothing c.args.text.now c.in-Err.fault a.0;
-      one = one_meaning c.args.text.now;
-      fits = fitting c.args.text.now;
-      cuts = cuts;
-    }
+pub returns-in_err-reserve-clause-cuts : goal.returns-in_err-reserve-clause-cuts
+returns-in_err-reserve-clause-cuts c = cuts
+
+pub returns-in_err-answer-clause-exact : goal.returns-in_err-answer-clause-exact
+returns-in_err-answer-clause-exact c =
+    let a : Composed c.args.text.now c.args.file.now c.from_residual-in_err-answer.result c.if-is_err.file = grind (arith, common_steps) in
+    exact c.args.text.now c.args.file.now c.from_residual-in_err-answer.result c.if-is_err.file a
+
+pub returns-in_err-answer-clause-one : goal.returns-in_err-answer-clause-one
+returns-in_err-answer-clause-one c = one_meaning c.args.text.now
+
+pub returns-in_err-answer-clause-fits : goal.returns-in_err-answer-clause-fits
+returns-in_err-answer-clause-fits c = fitting c.args.text.now
+
+pub returns-in_err-answer-clause-cuts : goal.returns-in_err-answer-clause-cuts
+returns-in_err-answer-clause-cuts c = cuts
+
+pub returns-clause-exact : goal.returns-clause-exact
+returns-clause-exact c =
+    let a : Composed c.args.text.now c.args.file.now (Ok tt) c.if-is_err.file = grind (arith, common_steps) in
+    exact c.args.text.now c.args.file.now (Ok tt) c.if-is_err.file a
+
+pub returns-clause-one : goal.returns-clause-one
+returns-clause-one c = one_meaning c.args.text.now
+
+pub returns-clause-fits : goal.returns-clause-fits
+returns-clause-fits c = fitting c.args.text.now
+
+pub returns-clause-cuts : goal.returns-clause-cuts
+returns-clause-cuts c = cuts
