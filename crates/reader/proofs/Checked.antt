@@ -9,8 +9,8 @@ use Rattle.reader.specs.Checked.{HandsOut, requests_left}
 use Rattle.reader.specs.Reading.{Handed, Reading, reading, requests_fault, requests_from, run_in, size_at}
 use Rattle.reader.specs.declared.reader.Run.{Run}
 use Rattle.reader.specs.declared.requests.CheckedRequests.{CheckedRequests}
-use Rattle.reader.proofs.Questions.{Ready, ready, same_ok}
-use Rattle.reader.proofs.Walk.{length_requests_from, some_none, walk_broke, walk_more}
+use Rattle.reader.proofs.Questions.{Ready, ready, same_ok, some_none}
+use Rattle.reader.proofs.Walk.{length_requests_from, walk_broke, walk_more}
 
 -- g and e are what the walker holds of the file f and of the end
 pub checked_more : (f g : List ℕ) (at to end e k left : ℕ) (r : Result Request Fault) → k ≡ suc left → g ≡ f → e ≡ end → requests_fault f at end k ≡ None

@@ -13,7 +13,7 @@ use Rattle.runfile.specs.Layout.{settings_from, known_pile, mark}
 use Rattle.reader.specs.Reading.{Reading, reading, run_in, run_of, run_fault, settings_at, requests_of, requests_from, requests_fault}
 use Rattle.runfile.specs.RunFile.{PileLetter, Says}
 use Rattle.reader.proofs.Places.{Part, part_middle, part_end, at32_in, marked_from, settings_in}
-use Rattle.reader.proofs.Questions.{Passed, passed_none, none_passed, same_ok}
+use Rattle.reader.proofs.Questions.{Passed, passed_none, none_passed, same_ok, some_none}
 use Rattle.reader.proofs.Soundness.{passed_says, passed_number}
 use Rattle.reader.proofs.Spelling.{spelled_found}
 
@@ -78,9 +78,6 @@ finds f s qs slots x le =
       number = t8;
       requests = ap (λ (k : ℕ). requests_from f k (at32 f (length f - 8))) from ∙ ap (λ (k : ℕ). requests_from f (length lead + 20) k) t8 ∙ sf.1;
     }
-
-some_none : (x : Fault) → ◌≡◌ {A = Option Fault} (Some x) None → ⊥
-some_none x h = let z : ◌≡◌ {A = ℕ} 0 1 = cc in omega arith
 
 -- completeness: what the file says is read, at the place where its lead ends
 pub says_read : (f : List ℕ) (s : Settings) (qs : List Ask) (slots : ℕ) (x : Says f s qs) → length qs ≤ slots

@@ -1,5 +1,4 @@
 -- Lemmas on reading: the questions, the walk over the requests, the places of a file's parts, and the format's theorems.
-mod First
 pub mod Questions
 pub mod Walk
 pub mod Checked

@@ -1,6 +1,6 @@
 -- The reader's questions are all answered yes just where it finds no fault. A chain of faults is empty just where each of
 -- its links is, and a link is empty just where its test is false.
-use Rattle.std.proofs.Common.{◌≡◌, ℕ, ◌+◌, ◌-◌, ◌<◌, ◌≤◌, Bool, true, false, ◌||◌, eqb, List, length, get_or, Some, None, Ok, Option, Result, refl, ap, ◌∙◌, subst, arith}
+use Rattle.std.proofs.Common.{◌≡◌, ℕ, ◌+◌, ◌-◌, ◌<◌, ◌≤◌, Bool, true, false, ◌||◌, eqb, List, length, get_or, Some, None, Ok, Err, Option, Result, refl, ap, ◌∙◌, subst, arith}
 use Rattle.std.proofs.lemmas.Bool.{not-false, not_from_true, ltb-false, le-ltb, leb-false, lt-leb, eqb-true, eq-eqb}
 use Rattle.line.specs.Words.{at32}
 use Rattle.line.specs.declared.denial.Denial.{Denial}
@@ -11,19 +11,28 @@ use Rattle.runfile.specs.Faults.{faulted, or_then, or_fault}
 use Rattle.runfile.specs.Layout.{known_pile, marked_at}
 use Rattle.reader.specs.Reading.{Reading, reading, run_in, run_of, run_fault, settings_at, request_fault, requests_fault, requests_from, requests_of, size_at}
 
+pub some_none : (x : Fault) → ◌≡◌ {A = Option Fault} (Some x) None → ⊥
+some_none x h = cc
+
 pub both_none : (o p : Option Fault) → o ≡ None → p ≡ None → or_then o p ≡ None
 both_none o p ho hp = ap (λ (x : Option Fault). or_then x p) ho ∙ hp
 
 pub none_both : (o p : Option Fault) → or_then o p ≡ None → (o ≡ None) × (p ≡ None)
-none_both (Some x) p h = let z : ◌≡◌ {A = ℕ} 0 1 = cc in absurd (omega arith)
+none_both (Some x) p h = cc
 none_both None p h = (refl, h)
 
 pub test_none : (b : Bool) (d : Denial) (p : ℕ) (s : Stage) → b ≡ false → faulted b d p s ≡ None
 test_none b d p s h = ap (λ (x : Bool). faulted x d p s) h
 
 pub none_test : (b : Bool) (d : Denial) (p : ℕ) (s : Stage) → faulted b d p s ≡ None → b ≡ false
-none_test true d p s h = let z : ◌≡◌ {A = ℕ} 0 1 = cc in absurd (omega arith)
+none_test true d p s h = cc
 none_test false d p s h = refl
+
+-- the fault of a first question is that of both
+pub first_fault : {V W : Type 0} (o p : Option Fault) (v : V) (w : W) (e : Fault)
+    → ◌≡◌ {A = Result V Fault} (Err e) (or_fault o v) → ◌≡◌ {A = Result W Fault} (Err e) (or_fault (or_then o p) w)
+first_fault (Some x) p v w e h = cc
+first_fault None p v w e h = cc
 
 -- each question of a file's reading is answered yes
 pub record Passed (f : List ℕ) (slots : ℕ) : Type 0 where
@@ -119,7 +128,7 @@ ready_by : (f : List ℕ) (slots : ℕ) (run : Run) (o : Option Fault) → run_f
 ready_by f slots run None e h =
     let same : run_of f ≡ run = cc in
     subst (λ (z : Run). Ready f slots z) same (ready_of f slots (none_passed f slots e))
-ready_by f slots run (Some x) e h = let z : ◌≡◌ {A = ℕ} 0 1 = cc in absurd (omega arith)
+ready_by f slots run (Some x) e h = cc
 
 pub ready : (f : List ℕ) (slots : ℕ) (run : Run) → ◌≡◌ {A = Result Run Fault} (Ok run) (run_in (reading f slots)) → Ready f slots run
 ready f slots run h = ready_by f slots run (run_fault f slots) refl h

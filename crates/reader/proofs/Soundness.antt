@@ -1,7 +1,8 @@
 -- A file that is read without a fault says what is read. It is cut at the settings, at the requests and at the trailer; each
 -- part holds what was read at its place, and the requests' part is spelled out by the requests.
-use Rattle.std.proofs.Common.{◌≡◌, ℕ, ◌+◌, ◌-◌, ◌≤◌, true, ◌&&◌, ◌||◌, eqb, List, [], ◌∷◌, ◌++◌, length, get_or, take, drop, sym, ap, ◌∙◌, inl, inr, ⊎_elim, arith, length-drop}
-use Rattle.std.proofs.lemmas.List.{drop-drop, drop_more, drop_all, take-append-drop, length-take-le}
+use Rattle.std.proofs.Common.{◌≡◌, ℕ, ◌+◌, ◌-◌, ◌≤◌, true, ◌||◌, eqb, List, ◌++◌, length, get_or, take, drop, sym, refl, ap, ◌∙◌, inl, inr, ⊎_elim, arith, length-drop}
+use Rattle.std.proofs.lemmas.List.{drop-drop, get_or-drop, take-append-drop, length-take-le}
+use Rattle.std.proofs.lemmas.Slice.Eq.{text_from_reads}
 use Rattle.std.proofs.lemmas.Bool.{or_cases, and_parts, eqb-true}
 use Rattle.line.specs.Words.{at32}
 use Rattle.runfile.specs.Asks.{asks}
@@ -27,27 +28,14 @@ letter_from p h =
     (λ (b : (eqb p 66 || eqb p 67) ≡ true). inr (⊎_elim (λ (a : eqb p 66 ≡ true). inl (eqb-true _ _ a)) (λ (a : eqb p 67 ≡ true). inr (eqb-true _ _ a)) (or_cases _ _ b)))
     (or_cases _ _ h)
 
--- four bytes to the end
-four : (f : List ℕ) (b : ℕ) → length f ≡ b + 4 → drop b f ≡ get_or f b 0 ∷ get_or f (b + 1) 0 ∷ get_or f (b + 2) 0 ∷ get_or f (b + 3) 0 ∷ []
-four f b l =
-    let d0 : drop b f ≡ get_or f b 0 ∷ drop (b + 1) f = drop_more f b 0 (omega arith) in
-    let d1 : drop (b + 1) f ≡ get_or f (b + 1) 0 ∷ drop (b + 2) f = drop_more f (b + 1) 0 (omega arith) ∙ ap (λ (k : ℕ). get_or f (b + 1) 0 ∷ drop k f) (omega arith) in
-    let d2 : drop (b + 2) f ≡ get_or f (b + 2) 0 ∷ drop (b + 3) f = drop_more f (b + 2) 0 (omega arith) ∙ ap (λ (k : ℕ). get_or f (b + 2) 0 ∷ drop k f) (omega arith) in
-    let d3 : drop (b + 3) f ≡ get_or f (b + 3) 0 ∷ drop (b + 3 + 1) f = drop_more f (b + 3) 0 (omega arith) in
-    let d4 : drop (b + 3 + 1) f ≡ [] = drop_all (b + 3 + 1) f (omega arith) in
-    cc
-
 mark_from : (f : List ℕ) (b : ℕ) → length f ≡ b + 4 → marked_at f b ≡ true → drop b f ≡ mark
 mark_from f b l h =
-    let p = and_parts (eqb (get_or f b 0) 82) (eqb (get_or f (b + 1) 0) 85 && (eqb (get_or f (b + 2) 0) 78 && eqb (get_or f (b + 3) 0) 49)) h in
-    let q = and_parts (eqb (get_or f (b + 1) 0) 85) (eqb (get_or f (b + 2) 0) 78 && eqb (get_or f (b + 3) 0) 49) p.1 in
+    let p = and_parts (eqb (get_or f b 0) 82) _ h in
+    let q = and_parts (eqb (get_or f (b + 1) 0) 85) _ p.1 in
     let r = and_parts (eqb (get_or f (b + 2) 0) 78) (eqb (get_or f (b + 3) 0) 49) q.1 in
-    let e0 = eqb-true (get_or f b 0) 82 p.0 in
-    let e1 = eqb-true (get_or f (b + 1) 0) 85 q.0 in
-    let e2 = eqb-true (get_or f (b + 2) 0) 78 r.0 in
-    let e3 = eqb-true (get_or f (b + 3) 0) 49 r.1 in
-    let d = four f b l in
-    cc
+    let byte : (i n v : ℕ) → n ≡ b + i → eqb (get_or f n 0) v ≡ true → get_or (drop b f) i 0 ≡ v =
+    λ i n v e t. get_or-drop b f i 0 ∙ ap (λ (k : ℕ). get_or f k 0) (sym e) ∙ eqb-true _ _ t in
+    text_from_reads (drop b f) mark (length-drop b f ∙ omega arith) (byte 0 b 82 (omega arith) p.0, (byte 1 (b + 1) 85 refl q.0, (byte 2 (b + 2) 78 refl r.0, (byte 3 (b + 3) 49 refl r.1, tt))))
 
 -- it says it, with the settings where they were read
 pub passed_says : (f : List ℕ) (slots : ℕ) → Passed f slots
