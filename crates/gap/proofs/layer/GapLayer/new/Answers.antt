@@ -1,6 +1,7 @@
 -- By the survey's answer.
 use Rattle.std.proofs.Common.{◌≡◌, ◌-◌, true, false, length, is_err, sym, refl, ap, ◌∙◌, arith}
 use Rattle.startgap.specs.Regions.{Gaps, region_size, new_gaps}
+use Rattle.startgap.proofs.Regions.{sizes}
 use Rattle.medium.specs.Law.{left}
 use Rattle.medium.specs.Meaning.{means}
 use Rattle.medium.specs.Pile.{gaps}
@@ -22,6 +23,16 @@ returns-then-is_err g c =
       unfit = λ d e. record { unfit = unfit; copies = ap (λ (G : Gaps). G.copies) c.none.ensures; wear = refl; pile = refl };
       fitted = fitted_none _ b _ _ _ _ _ refl unfit refl;
     }
+
+pub new-requires-clause-fit : goal.new-requires-clause-fit
+new-requires-clause-fit g c =
+    let R = c.args.regions in
+    let n = c.count-count.result in
+    let l = c.life.result - c.taken.result in
+    let yes : is_err (gap_survey R c.args.interval n l) ≡ false =
+    sym (ap is_err c.survey.ensures) ∙ sym c.is_err.ensures.value ∙ c.if-is_err.false in
+    let y = survey_yes R c.args.interval n l yes in
+    record { few = y.few; sized = (sizes n R y.some y.wide).0; paced = y.paced }
 
 pub returns : goal.returns
 returns g c =
