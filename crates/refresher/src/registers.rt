@@ -226,25 +226,16 @@ impl Registers {
 pub(crate) fn size_for(count: u16) -> u16
     ensures value { result ≡ greatest_power count }
 {
-    if count < 2 {
-        return 1;
-    }
-    if count >= 4096 {
-        return 4096;
-    }
-    1 << count.ilog2()
+    1 << count.clamp(1, 4096).ilog2()
 }
 
 // The greatest number of writes that `left` writes below pay for, with all their copies.
+#[tactic(auto, using(refresh::proofs::Lives::payable_room))]
 pub(crate) fn life_for(left: u32, size: u16, interval: u16) -> u32
     requires some { 1 ≤ interval }
     ensures value { result ≡ life_of interval size left }
 {
-    let half = (size / 2) as u32;
-    if left < half {
-        return 0;
-    }
-    let paid = left - half;
+    let paid = left.saturating_sub((size / 2) as u32);
     let copies = (paid as u64 + 1) / (interval as u64 + 1);
     paid - copies as u32
 }
