@@ -10,10 +10,10 @@ use Rattle.medium.specs.Array.{Array}
 use Rattle.medium.specs.Law.{left, NewRefresh, Unfit}
 use Rattle.medium.specs.Pile.{refresh, Pile, over, placed_lines, paid_life}
 use Rattle.refresher.specs.declared.registers.Exchange.{Exchange}
-use Rattle.refresher.specs.declared.registers.Registers.{Registers as Held}
+use Rattle.refresher.specs.declared.registers.Registers.{Registers as Fields}
 
 -- the registers that the struct holds
-abbrev pub registers : Held → Registers
+abbrev pub registers : Fields → Registers
 registers x =
     record { size = x.size; interval = x.interval; keys = x.keys.items; round = x.round; due = x.due; copies = x.copies }
 

@@ -9,7 +9,7 @@ ghost use Rattle.refresh.specs.Powers.{greatest_power};
 use arrayvec::ArrayVec;
 use refresh::round::Round;
 
-// Two places whose lines a refresh exchanges: where the line at the pointer lies by the previous key, and where it comes to lie by the current one.
+// The two places whose lines a refresh exchanges: that of the line at the pointer by the previous key, and by the current one.
 #[derive(Clone, Copy)]
 pub(crate) struct Exchange {
     pub(crate) previous: u16,
@@ -118,17 +118,12 @@ impl Registers {
     pub(crate) fn place(&self, line: u16) -> u16
         ensures value { result ≡ place_of self.now.round line }
     {
-        let Round {
-            previous,
-            current,
-            pointer,
-            ..
-        } = self.round;
-        let mate = line ^ previous ^ current;
-        if line < pointer || mate < pointer {
-            line ^ current
+        let round = self.round;
+        let mate = line ^ round.previous ^ round.current;
+        if line < round.pointer || mate < round.pointer {
+            line ^ round.current
         } else {
-            line ^ previous
+            line ^ round.previous
         }
     }
 
@@ -137,15 +132,10 @@ impl Registers {
     pub(crate) fn line_at(&self, place: u16) -> Option<u16>
         ensures value { result ≡ holder_at self.now.size self.now.round place }
     {
-        let Round {
-            previous,
-            current,
-            pointer,
-            ..
-        } = self.round;
-        let old = place ^ previous;
-        let new = place ^ current;
-        let line = if new < pointer || old < pointer {
+        let round = self.round;
+        let old = place ^ round.previous;
+        let new = place ^ round.current;
+        let line = if new < round.pointer || old < round.pointer {
             new
         } else {
             old
@@ -167,17 +157,11 @@ impl Registers {
         if self.waits() {
             return None;
         }
-        let Round {
-            previous,
-            current,
-            pointer,
-            ..
-        } = self.round;
-        let mate = pointer ^ previous ^ current;
-        (pointer < mate).then_some(Exchange {
-            previous: pointer ^ previous,
-            current: pointer ^ current,
-        })
+        let round = self.round;
+        let previous = round.pointer ^ round.previous;
+        let current = round.pointer ^ round.current;
+        let mate = previous ^ round.current;
+        (round.pointer < mate).then_some(Exchange { previous, current })
     }
 
     // The round after one refresh: the pointer rises, and at the end of the round the keys turn.
@@ -226,25 +210,16 @@ impl Registers {
 pub(crate) fn size_for(count: u16) -> u16
     ensures value { result ≡ greatest_power count }
 {
-    if count < 2 {
-        return 1;
-    }
-    if count >= 4096 {
-        return 4096;
-    }
-    1 << count.ilog2()
+    1 << count.clamp(1, 4096).ilog2()
 }
 
 // The greatest number of writes that `left` writes below pay for, with all their copies.
+#[tactic(auto, using(refresh::proofs::Lives::payable_room))]
 pub(crate) fn life_for(left: u32, size: u16, interval: u16) -> u32
     requires some { 1 ≤ interval }
     ensures value { result ≡ life_of interval size left }
 {
-    let half = (size / 2) as u32;
-    if left < half {
-        return 0;
-    }
-    let paid = left - half;
+    let paid = left.saturating_sub((size / 2) as u32);
     let copies = (paid as u64 + 1) / (interval as u64 + 1);
     paid - copies as u32
 }
