@@ -75,7 +75,10 @@ pub(crate) fn put_trailer(file: &mut Vec<u8>, requests: Extent)
     requires room { HasRoom file.old 16 }
     ensures put { Puts file.old (trailer_bytes requests.size requests.number) file.new }
 {
-    put(file, &((requests.size + lengths::SETTINGS) as u32).to_le_bytes());
+    put(
+        file,
+        &((requests.size + lengths::SETTINGS) as u32).to_le_bytes(),
+    );
     put(file, &(requests.size as u32).to_le_bytes());
     put(file, &requests.number.to_le_bytes());
     put(file, b"RUN1");

@@ -57,6 +57,7 @@ fn read_number(word: &[u8], greatest: u32) -> Result<u32, Wrong>
         if !byte.is_ascii_digit() {
             return Err(Wrong::NotANumber);
         }
+        // In 64 bits, since no checked sum knows `greatest`.
         let longer = u64::from(number) * 10 + u64::from(*byte - b'0');
         if longer > u64::from(greatest) {
             return Err(Wrong::OutOfRange);

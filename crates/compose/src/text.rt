@@ -173,6 +173,7 @@ impl<'a> Iterator for Lines<'a> {
     ghost remaining = { item_count lines_in };
 
     fn next(&mut self) -> Option<Line<'a>> {
+        // A `for` over `self.pieces.by_ref()` is not proved: the check has no name for what the lent field holds at a return.
         while let Some(bytes) = self.pieces.next() {
             self.number = self.number.saturating_add(1);
             let line = Line::of(bytes, self.number);
