@@ -13,6 +13,7 @@ ghost use Rattle.gap.specs.Registers.{registers};
 
 use crate::regions::{Move, Regions};
 use line::denial::Denial;
+use medium::left::left;
 use medium::medium::Medium;
 use startgap::life::life;
 
@@ -57,7 +58,7 @@ impl<M: Medium> GapLayer<M> {
         ensures fitted { Fitted (means M.Medium below) (M.Medium.wear below) (M.Medium.pile below) → Fitted (means ⟦<GapLayer<M> as Medium>⟧ result) (⟦<GapLayer<M> as Medium>⟧.wear result) (⟦<GapLayer<M> as Medium>⟧.pile result) }
     {
         let count = below.count();
-        let left = below.life() - below.taken();
+        let left = left(&below);
         if survey(regions, interval, count, left).is_err() {
             return GapLayer {
                 below,
@@ -137,7 +138,7 @@ impl<M: Medium> Medium for GapLayer<M> {
 
     #[tactic(auto, unfolding(medium::specs::Pile::paid_life))]
     fn life(&self) -> u32 {
-        let left = self.below.life() - self.below.taken();
+        let left = left(&self.below);
         let cost = self.life as u64 + self.regions.copies_after(self.life) as u64;
         if cost <= self.taken as u64 + self.regions.copies() as u64 + left as u64 {
             self.life

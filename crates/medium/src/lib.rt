@@ -4,5 +4,6 @@
 
 pub mod ask;
 pub mod call;
+pub mod left;
 pub mod lent;
 pub mod medium;

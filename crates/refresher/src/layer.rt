@@ -9,6 +9,7 @@ ghost use Rattle.refresher.specs.Layer.{registers, refresh_lines, refresh_life, 
 
 use crate::registers::{Exchange, Registers, life_for, size_for};
 use line::denial::Denial;
+use medium::left::left;
 use medium::medium::Medium;
 
 /// A layer that remaps the lines of the medium below under one key after another, one line with each due refresh.
@@ -63,7 +64,7 @@ impl<M: Medium> RefreshLayer<M> {
         ensures fitted { Fitted (means M.Medium below) (M.Medium.wear below) (M.Medium.pile below) → Fitted (means ⟦<RefreshLayer<M> as Medium>⟧ result) (⟦<RefreshLayer<M> as Medium>⟧.wear result) (⟦<RefreshLayer<M> as Medium>⟧.pile result) }
     {
         let count = below.count();
-        let left = below.life() - below.taken();
+        let left = left(&below);
         if survey(ring.len(), interval, count, left).is_err() {
             return RefreshLayer {
                 below,
@@ -141,7 +142,7 @@ impl<M: Medium> Medium for RefreshLayer<M> {
 
     #[tactic(auto, using(medium::proofs::Layers::paid_yes, medium::proofs::Layers::paid_no))]
     fn life(&self) -> u32 {
-        let left = (self.below.life() - self.below.taken()) as u64;
+        let left = left(&self.below) as u64;
         if self.cost as u64 <= self.taken as u64 + self.registers.copies() as u64 + left {
             self.life
         } else {

@@ -9,6 +9,7 @@ ghost use Rattle.medium.specs.Pile.{over, scatter, paid_life, made_by};
 ghost use Rattle.scatter.specs.Scatters.{scatter_survey, scatter_size, scatter_lines, scatter_place, scatter_holder};
 
 use line::denial::Denial;
+use medium::left::left;
 use medium::medium::Medium;
 use shuffle::shuffle::Shuffle;
 
@@ -23,13 +24,6 @@ pub fn survey(span: u16, count: u16, left: u32) -> Result<(), Denial>
         return Err(Denial::LifeOutOfRange);
     }
     Ok(())
-}
-
-// How many writes a medium still accepts.
-fn left_of<M: Medium>(medium: &M) -> u32
-    ensures { result ≡ left (means M.Medium medium.now) }
-{
-    medium.life() - medium.taken()
 }
 
 /// A layer whose lines lie below at the places to which a shuffle takes their numbers. It makes no copies.
@@ -50,7 +44,7 @@ impl<S: Shuffle, M: Medium> ScatterLayer<S, M> {
         ensures made { MadeOver (scatter_survey (S.Shuffle.span shuffle) (length (M.Medium.lines below)) (left (means M.Medium below))) (scatter (S.Shuffle.span shuffle) (S.Shuffle.forward shuffle)) (means M.Medium below) (M.Medium.wear below) (M.Medium.pile below) (⟦<ScatterLayer<S, M> as Medium>⟧.pile result) (means ⟦<ScatterLayer<S, M> as Medium>⟧ result) (⟦<ScatterLayer<S, M> as Medium>⟧.wear result) }
         ensures fitted { Fitted (means M.Medium below) (M.Medium.wear below) (M.Medium.pile below) → Fitted (means ⟦<ScatterLayer<S, M> as Medium>⟧ result) (⟦<ScatterLayer<S, M> as Medium>⟧.wear result) (⟦<ScatterLayer<S, M> as Medium>⟧.pile result) }
     {
-        let left = left_of(&below);
+        let left = left(&below);
         let life = survey(shuffle.span(), below.count(), left).map_or(0, |()| left);
         ScatterLayer {
             shuffle,
@@ -126,7 +120,7 @@ impl<S: Shuffle, M: Medium> Medium for ScatterLayer<S, M> {
 
     #[tactic(auto, using(medium::proofs::Layers::paid_yes, medium::proofs::Layers::paid_no))]
     fn life(&self) -> u32 {
-        let left = left_of(&self.below);
+        let left = left(&self.below);
         if self.life - self.taken <= left {
             self.life
         } else {
