@@ -13,7 +13,8 @@ use Rattle.gap.proofs.layer.GapLayer.new.Goals as goal
 pub returns-then-is_err : goal.returns-then-is_err
 returns-then-is_err g c =
     let b = means g.M.Medium c.args.below in
-    let same = surveyed c.args.regions c.args.interval c.count-count.result (length b.lines) (c.life.result - c.taken.result) (left b) (omega arith) (omega arith) in
+    let el = c.left-left.ensures.left in
+    let same = surveyed c.args.regions c.args.interval c.count-count.result (length b.lines) c.left-left.result (left b) (omega arith) (omega arith) in
     let no : is_err (gap_survey c.args.regions c.args.interval (length b.lines) (left b)) ≡ true =
     sym (ap is_err (c.survey.ensures ∙ same)) ∙ sym c.is_err.ensures.value ∙ c.if-is_err.true in
     let unfit = ap (λ (G : Gaps). gap_array G 0 0 b) c.none.ensures ∙ unfit_array b in
@@ -28,7 +29,7 @@ pub new-requires-clause-fit : goal.new-requires-clause-fit
 new-requires-clause-fit g c =
     let R = c.args.regions in
     let n = c.count-count.result in
-    let l = c.life.result - c.taken.result in
+    let l = c.left-left.result in
     let yes : is_err (gap_survey R c.args.interval n l) ≡ false =
     sym (ap is_err c.survey.ensures) ∙ sym c.is_err.ensures.value ∙ c.if-is_err.false in
     let y = survey_yes R c.args.interval n l yes in
@@ -39,12 +40,13 @@ returns g c =
     let R = c.args.regions in
     let n = c.count-count.result in
     let b = means g.M.Medium c.args.below in
-    let l = c.life.result - c.taken.result in
+    let l = c.left-left.result in
+    let el = c.left-left.ensures.left in
     let same = surveyed R c.args.interval n (length b.lines) l (left b) (omega arith) (omega arith) in
     let yes : is_err (gap_survey R c.args.interval n l) ≡ false =
     sym (ap is_err c.survey.ensures) ∙ sym c.is_err.ensures.value ∙ c.if-is_err.false in
     let y = survey_yes R c.args.interval n l yes in
-    let made = new_made b (g.M.Medium.wear c.args.below) (g.M.Medium.pile c.args.below) R c.args.interval n l c.life-2.result _ (omega arith) (omega arith) y c.life-2.ensures.answer c.new.ensures in
+    let made = new_made b (g.M.Medium.wear c.args.below) (g.M.Medium.pile c.args.below) R c.args.interval n l c.life.result _ (omega arith) (omega arith) y c.life.ensures.answer c.new.ensures in
     record {
       kept = refl;
       fit = λ e. made;

@@ -30,14 +30,12 @@ new-registers-requires-clause-power g c =
 
 pub returns-clause-fit : goal.returns-clause-fit
 returns-clause-fit g c =
-    let el = c.life.ensures.answer in
-    let et = c.taken.ensures.answer in
+    let el = c.left-left.ensures.left in
     λ e. layer_made (means g.M.Medium c.args.below) _ _ _ _ _ _ _ _ _ _ (omega arith) c.count-count.ensures.bound c.count-count.ensures.answer (omega arith) c.survey.ensures.answer (sym c.is_err.ensures.value ∙ c.if-is_err.false) c.size_for-size.ensures.value c.life_for-life.ensures.value c.new-registers.ensures.new
 
 pub returns-clause-fitted : goal.returns-clause-fitted
 returns-clause-fitted g c =
     let b = means g.M.Medium c.args.below in
-    let el = c.life.ensures.answer in
-    let et = c.taken.ensures.answer in
+    let el = c.left-left.ensures.left in
     let made = layer_made b _ _ _ _ _ _ _ _ (g.M.Medium.wear c.args.below) (g.M.Medium.pile c.args.below) (omega arith) c.count-count.ensures.bound c.count-count.ensures.answer (omega arith) c.survey.ensures.answer (sym c.is_err.ensures.value ∙ c.if-is_err.false) c.size_for-size.ensures.value c.life_for-life.ensures.value c.new-registers.ensures.new in
     fitted_new (refresh (new_registers (greatest_power (length b.lines)) c.args.interval c.args.ring.now)) b (g.M.Medium.wear c.args.below) (g.M.Medium.pile c.args.below) _ _ _ made.pile made.new made.wear
