@@ -6,4 +6,4 @@ pub mod feistel;
 pub mod key;
 pub mod shuffle;
 pub mod theorems;
-pub mod width;
+mod width;

@@ -5,9 +5,9 @@ ghost use Rattle.line.specs.declared.denial.Denial.TheVariants.{SettingsOutOfRan
 
 use line::denial::Denial;
 
-/// A number of bits from 1 to `MOST`, which is at most 12.
+// A number of bits from 1 to `MOST`, which is at most 12.
 #[derive(Clone, Copy)]
-pub struct Width<const MOST: u8> {
+pub(crate) struct Width<const MOST: u8> {
     pub(crate) bits: u8,
     ghost some: { 1 ≤ bits },
     ghost few: { bits ≤ MOST },
