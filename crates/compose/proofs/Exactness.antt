@@ -1,6 +1,6 @@
 -- A text is read as what it says, and a fault is found only where it says nothing that fits a file. The entries are taken one by one; what
 -- a text says gives each entry's words, and they give what is read.
-use Rattle.std.proofs.Common.{◌≡◌, ℕ, ◌+◌, ◌≤◌, Bool, true, false, cond, leb, List, [], ◌∷◌, ◌++◌, length, Vec, Result, Ok, Err, codes, sym, refl, ap, ◌∙◌, subst, arith, length-append, le-leb, leb-true}
+use Rattle.std.proofs.Common.{◌≡◌, ℕ, ◌+◌, ◌≤◌, Bool, true, false, cond, leb, List, [], ◌∷◌, ◌++◌, length, Vec, Result, Ok, Err, sym, refl, ap, ◌∙◌, subst, arith, length-append, le-leb, leb-true}
 use Rattle.std.specs.declared.alloc.Global.{Global}
 use Rattle.runfile.specs.Asks.{Ask}
 use Rattle.runfile.specs.RunFile.{ask_bytes, asks_bytes, settings_bytes, trailer_bytes, written}
@@ -15,7 +15,7 @@ use Rattle.compose.specs.Composing.{Composed}
 use Rattle.compose.specs.Fields.{at, then, at_line, request_in, request_size, ask_of}
 use Rattle.compose.specs.Lines.{Entry, entries, last_number}
 use Rattle.compose.specs.Pieces.{pieces}
-use Rattle.compose.specs.Says.{Numeral, KeysSpelled, AskSpelled, AsksSpelled, Says, Exact, OneMeaning}
+use Rattle.compose.specs.Says.{KeysSpelled, AskSpelled, AsksSpelled, Says, Exact, OneMeaning}
 use Rattle.compose.specs.Scripts.{Script, asks_in, script_of, file_of}
 use Rattle.compose.specs.Numerals.{number}
 use Rattle.compose.specs.Settings.{others, letter, setting_in, keys_in, after_settings, settings_in}

@@ -2,15 +2,13 @@
 use Rattle.std.proofs.Common.{◌≡◌, ℕ, Bool, true, false, cond, List, [], ◌∷◌, map, Ok, Err, Result, sym, refl, ap, ◌∙◌, subst, arith}
 use Rattle.std.proofs.lemmas.Slice.Eq.{bytes_eq-Decides}
 use Rattle.compose.specs.declared.fields.Letter.{Letter}
-use Rattle.compose.specs.declared.refusal.Fault.{Fault}
 use Rattle.compose.specs.declared.refusal.Setting.{Setting}
 use Rattle.compose.specs.declared.refusal.Setting.TheVariants.{Keys}
 use Rattle.compose.specs.declared.refusal.Wrong.{Wrong}
 use Rattle.compose.specs.declared.refusal.Wrong.TheVariants.{Expected, NotALetter}
 use Rattle.compose.specs.Fields.{at, then, at_line, first, tail, ended}
 use Rattle.compose.specs.Lines.{Entry}
-use Rattle.compose.specs.Numerals.{number}
-use Rattle.compose.specs.Says.{Numeral, KeysSpelled}
+use Rattle.compose.specs.Says.{KeysSpelled}
 use Rattle.compose.specs.Settings.{name_of, begins, named, others, letter, lone, four_in, setting_in, keys_in}
 use Rattle.compose.proofs.Asking.{then_ok, then_go, then_numeral, first_ok, ended_ok}
 use Rattle.compose.proofs.Numerals.{ok_err, ok_ok, numeral_complete}

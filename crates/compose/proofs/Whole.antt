@@ -1,12 +1,10 @@
 -- The whole: the settings' lines and then the requests' give what the text says, and their bytes one after another are the run file.
-use Rattle.std.proofs.Common.{◌≡◌, ℕ, List, ◌++◌, length, take, Ok, Err, Result, sym, ap, ◌∙◌, append_assoc}
-use Rattle.std.proofs.lemmas.List.{take_at}
+use Rattle.std.proofs.Common.{◌≡◌, ℕ, List, ◌++◌, length, Ok, Result, sym, ap, ◌∙◌, append_assoc}
 use Rattle.runfile.specs.Asks.{Ask}
 use Rattle.runfile.specs.RunFile.{asks_bytes, settings_bytes, trailer_bytes}
 use Rattle.runfile.specs.declared.settings.Settings.{Settings}
 use Rattle.compose.specs.declared.refusal.Fault.{Fault}
 use Rattle.compose.specs.declared.text.Lines.{Lines}
-use Rattle.compose.specs.Composing.{Longer}
 use Rattle.compose.specs.Fields.{then}
 use Rattle.compose.specs.Lines.{Entry, entries, last_number}
 use Rattle.compose.specs.Pieces.{pieces, pieces_of}

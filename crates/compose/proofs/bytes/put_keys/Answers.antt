@@ -1,5 +1,5 @@
 -- One key after another.
-use Rattle.std.proofs.Common.{◌≡◌, ℕ, ◌+◌, ◌*◌, List, ◌++◌, length, get_or, take, arith, rules, length-take-le, subst, sym, ap, ◌∙◌}
+use Rattle.std.proofs.Common.{◌≡◌, ℕ, List, length, take, arith, rules, length-take-le, subst, sym, ap}
 use Rattle.std.proofs.lemmas.List.{take_all}
 use Rattle.runfile.specs.RunFile.{keys_bytes}
 use Rattle.compose.specs.Bytes.{Puts}

@@ -1,6 +1,6 @@
 -- One entry is taken and its request appended.
-use Rattle.std.proofs.Common.{◌≡◌, ◌∙◌, sym, ap, arith, subst, ℕ, ◌+◌}
-use Rattle.compose.specs.Fields.{request_size, at_line}
+use Rattle.std.proofs.Common.{◌∙◌, sym, ap, arith, subst, ℕ, ◌+◌}
+use Rattle.compose.specs.Fields.{at_line}
 use Rattle.compose.specs.Taken.{lines_in}
 use Rattle.compose.proofs.Going.{Going, going_more}
 use Rattle.compose.proofs.compose.append_requests.Goals as goal

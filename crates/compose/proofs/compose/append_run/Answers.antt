@@ -1,5 +1,4 @@
 -- The settings, the requests and the trailer, one after another.
-use Rattle.std.proofs.Common.{◌≡◌, sym, ap, ◌∙◌}
 use Rattle.compose.specs.Taken.{lines_in}
 use Rattle.compose.proofs.Whole.{Opened, script_is, file_is}
 use Rattle.compose.proofs.compose.append_run.Goals as goal

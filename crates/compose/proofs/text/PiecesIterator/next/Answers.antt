@@ -1,5 +1,5 @@
 -- The first piece ends at the first stop.
-use Rattle.std.proofs.Common.{◌≡◌, ℕ, ◌+◌, eqb, Option, Some, None, sym, ap, ◌∙◌, rules, tests}
+use Rattle.std.proofs.Common.{◌≡◌, ℕ, ◌+◌, eqb, sym, ap, ◌∙◌, rules, tests}
 use Rattle.std.proofs.lemmas.Iterator.{YieldsList-from_slice}
 use Rattle.std.proofs.lemmas.Iterator.Search.{position_from_yields_List}
 use Rattle.std.proofs.lemmas.List.{take_rest}
