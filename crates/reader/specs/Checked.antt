@@ -16,6 +16,11 @@ pub record HandsOut (old : CheckedRequests) (handed : Option Request) (new : Che
   pub first : YieldsFirstBy placed_of requests_left old handed new
   pub sixteen : IfSome handed (λ q. Sixteen (Ok q))
 
+-- the requests in the answer of a check
+abbrev pub requests_in : Result CheckedRequests Fault → Result (List Placed) Fault
+requests_in (Ok c) = Ok (requests_left c)
+requests_in (Err e) = Err e
+
 -- the reading in an answer: the run, and the requests that it hands out
 abbrev pub reading_in : Result (Run × CheckedRequests) Fault → Result Reading Fault
 reading_in (Ok x) = Ok (record { run = x.0; requests = requests_left x.1 })

@@ -102,19 +102,15 @@ fn settings_from(file: &[u8], at: usize, pile: char) -> Settings
     requires letter { pile ≡ slice_index file.now at }
     ensures settings { result ≡ settings_from file.now at }
 {
+    let half = |offset: usize| u16::from_le_bytes(bytes_at(file, at + offset));
     Settings {
         pile,
         regions: file[at + 1],
-        interval: u16::from_le_bytes(bytes_at(file, at + 2)),
-        lines: u16::from_le_bytes(bytes_at(file, at + 4)),
+        interval: half(2),
+        lines: half(4),
         n: file[at + 6],
         life: u32::from_le_bytes(bytes_at(file, at + 8)),
-        keys: [
-            u16::from_le_bytes(bytes_at(file, at + 12)),
-            u16::from_le_bytes(bytes_at(file, at + 14)),
-            u16::from_le_bytes(bytes_at(file, at + 16)),
-            u16::from_le_bytes(bytes_at(file, at + 18)),
-        ],
+        keys: [half(12), half(14), half(16), half(18)],
     }
 }
 
@@ -138,6 +134,7 @@ fn fill_slots(mut requests: CheckedRequests<'_>, slots: &mut [Slot])
     requires room { length (requests_left requests) ≤ length slots.old }
     ensures slots { slots.new ≡ map slot_at (requests_left requests.entry) ++ drop (length (requests_left requests.entry)) slots.old }
 {
+    // No `zip`: of slots that an adapter of `iter_mut` lends, only their number is known afterwards.
     for slot in slots.iter_mut() {
         let Some(request) = requests.next() else {
             return;

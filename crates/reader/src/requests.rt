@@ -1,7 +1,8 @@
 //! The requests of a run file, handed out in turn.
 
-ghost use Rattle.std.specs.Prelude.{◌≡◌, ◌+◌, ◌≤◌, ◌<◌, min, length, take, drop, ◌==◌, None, MatchResult, Some};
+ghost use Rattle.std.specs.Prelude.{◌≡◌, ◌+◌, ◌≤◌, ◌<◌, min, length, take, drop, ◌==◌, None, MatchResult};
 ghost use Rattle.runfile.specs.Asks.{Sixteen};
+ghost use Rattle.runfile.specs.Faults.{or_fault};
 ghost use Rattle.line.specs.declared.denial.Denial.TheVariants.{RequestsMiscounted, RequestCutShort};
 ghost use Rattle.runfile.specs.declared.fault.Stage.TheVariants.{Trailer as in_trailer, Request as in_request};
 ghost use Rattle.reader.specs.Reading.{Handed, requests_fault, requests_from, walk_end};
@@ -23,7 +24,7 @@ pub struct Requests<'a> {
 }
 
 impl<'a> Requests<'a> {
-    ghost use Rattle.reader.specs.Checked.{requests_left};
+    ghost use Rattle.reader.specs.Checked.{requests_in};
 
     /// The requests of a run file from a place on. A file whose length is not from 16 to 65,536 has none.
     pub fn new(file: &'a [u8], from: usize) -> Requests<'a>
@@ -102,9 +103,7 @@ impl<'a> Requests<'a> {
     /// Goes over the requests that are left, of which there are to be this many. Denied with 15 where there are fewer or more, and
     /// with 13 and 14 as `next` is, at the first request that is at fault.
     pub fn check(self, number: u32) -> Result<CheckedRequests<'a>, Fault>
-        ensures cases { MatchResult result
-            (λ checked. (requests_fault self.entry.file.now self.entry.at self.entry.end number ≡ None) × (requests_left checked ≡ requests_from self.entry.file.now self.entry.at number))
-            (λ fault. requests_fault self.entry.file.now self.entry.at self.entry.end number ≡ Some fault) }
+        ensures answer { requests_in result ≡ or_fault (requests_fault self.entry.file.now self.entry.at self.entry.end number) (requests_from self.entry.file.now self.entry.at number) }
     {
         let mut requests = self;
         for _ in 0..number {
