@@ -6,7 +6,6 @@ ghost use Rattle.compose.specs.Bytes.{HasRoom, Puts};
 ghost use Rattle.compose.specs.Fields.{ask_of, request_size};
 
 use crate::requests::Request;
-use line::kind::LineKind;
 use runfile::lengths;
 use runfile::settings::Settings;
 
@@ -61,11 +60,9 @@ pub(crate) fn put_request(file: &mut Vec<u8>, request: Request)
             put(file, &line.to_le_bytes());
         }
         Request::Write { line, load } => {
-            let mut bytes = [0; 16];
-            let _ = load.write_to(&mut bytes);
             put(file, b"w");
             put(file, &line.to_le_bytes());
-            put(file, &bytes);
+            put(file, &<[u8; 16]>::from(load));
         }
     }
 }

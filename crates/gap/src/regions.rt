@@ -17,6 +17,7 @@ pub(crate) struct Move {
 /// Regions of lines, each with one place that holds no line: its gap. After each `interval` writes to a region it moves.
 #[derive(Drop)]
 pub(crate) struct Regions {
+    // a plain table, as a rule of the project has it: no heap, and one row is lent to be moved; the first `count` are in use
     rows: [Row; 16],
     count: u16,
     size: u16,

@@ -41,6 +41,7 @@ pub enum Denial {
 }
 
 impl Denial {
+    // A method and no `From`: `u8::from(denial)` would not say what the number is.
     /// The number by which this denial is known.
     pub fn number(self) -> u8
         ensures { result ≡ number self }

@@ -89,6 +89,7 @@ impl LineKind for Load {
 
     fn write_to(&self, buf: &mut [u8]) -> Result<(), Denial> {
         let bytes = <[u8; 16]>::from(*self);
+        // No `<&mut [u8; 16]>::try_from(buf)`: of what is written through its answer the proof is not found.
         if buf.len() != 16 {
             return Err(Denial::WrongLength);
         }

@@ -28,6 +28,7 @@ impl LineKind for u64 {
 
     fn write_to(&self, buf: &mut [u8]) -> Result<(), Denial> {
         let bytes = self.to_le_bytes();
+        // No `<&mut [u8; 8]>::try_from(buf)`: of what is written through its answer the proof is not found.
         if buf.len() != 8 {
             return Err(Denial::WrongLength);
         }

@@ -20,6 +20,7 @@ use std::marker::PhantomData;
 #[derive(Drop)]
 pub struct ByteMedium<'a, K> {
     bytes: &'a mut [u8],
+    // lent beside the bytes, as a rule of the project has it: whoever lends them reads them afterwards
     counts: &'a mut [u32],
     life: u32,
     // the sum of the counts, kept so that a write need not add them up

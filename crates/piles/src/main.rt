@@ -5,9 +5,9 @@
 ghost use Rattle.std.specs.Prelude.{◌<◌};
 
 use gap::layer::GapLayer;
-use media::bytes::ByteMedium;
 use line::answer::{Accepted, Answer};
 use line::load::{Activity, Load};
+use media::bytes::ByteMedium;
 use medium::call::Call;
 use medium::medium::Medium;
 use refresher::layer::RefreshLayer;

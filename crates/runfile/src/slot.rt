@@ -45,6 +45,7 @@ pub struct Slot {
 }
 
 impl Slot {
+    // No `From<Request>`: the name says that the answer is still to come.
     /// The slot of a request that has not been carried out.
     pub fn unmarked(request: Request) -> Slot
         ensures slot { result ≡ slot_of request.entry }

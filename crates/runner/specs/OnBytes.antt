@@ -1,5 +1,5 @@
 -- A run on a byte medium of loads: what its memory then holds, and what is answered. Assumes nothing.
-use Rattle.std.specs.Prelude.{ℕ, ◌+◌, ◌-◌, ◌*◌, List, [], ◌∷◌, Ok, Err, slice_index, slice_set}
+use Rattle.std.specs.Prelude.{ℕ, ◌+◌, ◌-◌, ◌*◌, List, [], ◌∷◌, replicate, Ok, Err, slice_index, slice_set}
 use Rattle.line.specs.Answers.{Answer}
 use Rattle.line.specs.Loads.{load_of, load_bytes}
 use Rattle.line.specs.declared.answer.Accepted.TheVariants.{Line, Toll}
@@ -14,6 +14,10 @@ use Rattle.runner.specs.declared.totals.Totals.{Totals}
 pub record Memory : Type 0 where
   pub bytes : List ℕ
   pub counts : List ℕ
+
+-- memory of bytes with n counts, of no write yet
+abbrev pub new_memory : List ℕ → ℕ → Memory
+new_memory bs n = record { bytes = bs; counts = replicate n 0 }
 
 -- the array that such memory means
 abbrev pub array_in : Memory → ℕ → Array Load

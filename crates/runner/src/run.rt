@@ -23,8 +23,11 @@ fn survey_medium(run: &Run, bytes: usize, counts: usize) -> Result<(), Fault>
     } else {
         0
     };
-    survey::<Load>(lines, run.settings.life as u64, room)
-        .map_err(|denial| Fault::new(denial, run.place, Stage::Pile { height: 0 }))
+    survey::<Load>(lines, run.settings.life as u64, room).map_err(|denial| Fault::new(
+        denial,
+        run.place,
+        Stage::Pile { height: 0 },
+    ))
 }
 
 /// Carries out a run file's requests on a byte medium of loads, which lies in the front of the lent bytes and counts, and marks each

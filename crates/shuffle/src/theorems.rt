@@ -18,8 +18,8 @@ pub fn marked_cases() -> [u16; 3]
     [shuffle.forward(0), shuffle.forward(6), shuffle.forward(15)]
 }
 
-#[tactic(auto, using(crate::specs::Networks::network_undoes))]
 /// States that in every Feistel network back undoes forward, whatever its round functions, if their answers have the width of a half.
+#[tactic(auto, using(crate::specs::Networks::network_undoes))]
 pub fn any_round_functions()
     ensures undoes { NetworkUndoes }
 {}

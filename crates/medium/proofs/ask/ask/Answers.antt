@@ -1,5 +1,5 @@
 -- A read leaves the medium as it was, and a write does what the trait says; either is one call in turn, and a run of one call.
-use Rattle.std.proofs.Common.{◌≡◌, List, [], ◌∷◌, Ok, Err, Result, sym, ap, ◌∙◌, subst}
+use Rattle.std.proofs.Common.{[], ◌∷◌, Ok, Err, sym, ap, ◌∙◌, subst}
 use Rattle.std.proofs.lemmas.Result.{err_from_is_err_and}
 use Rattle.medium.specs.Array.{read_reply}
 use Rattle.medium.specs.Chain.{InTurn}

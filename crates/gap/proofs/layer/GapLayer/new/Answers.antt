@@ -1,5 +1,5 @@
 -- By the survey's answer.
-use Rattle.std.proofs.Common.{◌≡◌, ◌-◌, true, false, length, is_err, sym, refl, ap, ◌∙◌, arith}
+use Rattle.std.proofs.Common.{◌≡◌, true, false, length, is_err, sym, refl, ap, ◌∙◌, arith}
 use Rattle.startgap.specs.Regions.{Gaps, region_size, new_gaps}
 use Rattle.startgap.proofs.Regions.{sizes}
 use Rattle.medium.specs.Law.{left}
