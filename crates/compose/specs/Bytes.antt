@@ -6,7 +6,7 @@ use Rattle.std.specs.declared.alloc.Global.{Global}
 abbrev pub HasRoom : Vec ℕ Global → ℕ → Type 0
 HasRoom v n = vec_len v + n ≤ vec_capacity v
 
--- the bytes were appended, and took no more room than they need
+-- the bytes were appended, and the capacity did not shrink
 pub record Puts (before : Vec ℕ Global) (bytes : List ℕ) (after : Vec ℕ Global) : Type 0 where
   pub items : vec_items after ≡ vec_items before ++ bytes
   pub len : vec_len after ≡ vec_len before + length bytes

@@ -9,7 +9,7 @@ use crate::text::Words;
 use line::load::{Activity, Load};
 use runfile::lengths;
 
-/// A request.
+/// A request. It is no call of a medium: what writes run files knows their format, and no medium.
 #[derive(Clone, Copy)]
 pub(crate) enum Request {
     /// Read a line.

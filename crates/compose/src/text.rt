@@ -10,7 +10,7 @@ ghost use Rattle.compose.specs.Taken.{lines_in};
 use crate::fields::Field;
 use crate::refusal::{Fault, Wrong};
 
-/// What is left of the pieces that the stops part.
+/// What is left of bytes that are split at each `stop`.
 #[derive(Clone, Copy)]
 pub(crate) struct Pieces<'a> {
     pub(crate) rest: Option<&'a [u8]>,
@@ -135,12 +135,11 @@ impl<'a> Line<'a> {
         }
     }
 
-    /// An answer that was found in this line, where it is a refusal as a fault of the line.
+    /// The answer, with a refusal as the fault of this line.
     pub(crate) fn locate<T>(self, answer: Result<T, Wrong>) -> Result<T, Fault>
         ensures answer { result ≡ at_line self.entry.number answer }
     {
-        let line = self.number;
-        answer.map_err(|wrong| Fault { line, wrong })
+        answer.map_err(|wrong| self.fault(wrong))
     }
 }
 

@@ -5,7 +5,8 @@ ghost use Rattle.line.specs.declared.denial.Denial.{Denial as Denied};
 ghost use Rattle.startgap.specs.Regions.{GapsSound, total_due, new_gaps, region_size};
 ghost use Rattle.medium.specs.Array.{fetched};
 ghost use Rattle.medium.specs.Chain.{LayerEffect};
-ghost use Rattle.medium.specs.Law.{left, Fitted};
+ghost use Rattle.medium.specs.Fits.{IsFitted};
+ghost use Rattle.medium.specs.Law.{left};
 ghost use Rattle.medium.specs.Meaning.{means};
 ghost use Rattle.medium.specs.Pile.{gaps, over};
 ghost use Rattle.gap.specs.Regions.{gap_lines, gap_life, gap_survey, place_answer, holder_answer, Made, MadeUnfit};
@@ -55,7 +56,7 @@ impl<M: Medium> GapLayer<M> {
         ensures kept { result.below ≡ below }
         ensures fit { gap_survey regions interval (length (M.Medium.lines below)) (left (means M.Medium below)) ≡ Ok tt → Made (new_gaps regions (region_size (length (M.Medium.lines below)) regions) interval) (means ⟦<GapLayer<M> as Medium>⟧ result) (⟦<GapLayer<M> as Medium>⟧.wear result) (⟦<GapLayer<M> as Medium>⟧.pile result) (means M.Medium below) (M.Medium.wear below) (M.Medium.pile below) }
         ensures unfit { (d : Denied) → gap_survey regions interval (length (M.Medium.lines below)) (left (means M.Medium below)) ≡ Err d → MadeUnfit (registers result.regions) (means ⟦<GapLayer<M> as Medium>⟧ result) (⟦<GapLayer<M> as Medium>⟧.wear result) (⟦<GapLayer<M> as Medium>⟧.pile result) (means M.Medium below) (M.Medium.wear below) (M.Medium.pile below) }
-        ensures fitted { Fitted (means M.Medium below) (M.Medium.wear below) (M.Medium.pile below) → Fitted (means ⟦<GapLayer<M> as Medium>⟧ result) (⟦<GapLayer<M> as Medium>⟧.wear result) (⟦<GapLayer<M> as Medium>⟧.pile result) }
+        ensures fitted { IsFitted M.Medium below → IsFitted ⟦<GapLayer<M> as Medium>⟧ result }
     {
         let count = below.count();
         let left = left(&below);

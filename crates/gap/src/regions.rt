@@ -96,7 +96,8 @@ fn split(size: u16, number: u16) -> (u16, u16)
     (number / size, number % size)
 }
 
-// Moves the gap of a region of `size` lines to the place that the move reads.
+// Moves the gap of a region of `size` lines to the place that the move reads. By its row alone, since one row is lent, as a rule of the
+// project has it.
 #[tactic(auto, unfolding(startgap::specs::Rows::row_moved, startgap::specs::Rows::row_from))]
 fn advance(row: &mut Row, size: u16)
     requires start { row.old.start < size }
@@ -139,7 +140,8 @@ impl Regions {
         }
     }
 
-    /// The registers of a layer that does not fit: no regions, with settings that are in range.
+    /// The registers of a layer that does not fit: no regions, with settings that are in range. No `Option`, since no lines is what such a
+    /// layer has.
     pub(crate) fn none() -> Regions
         ensures { registers result ≡ new_gaps 0 1 1 }
     {

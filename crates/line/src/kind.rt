@@ -37,6 +37,26 @@ pub trait LineKind: Copy {
     ghost back: { (v : Self) → fits v → reading (writing v) ≡ v };
 }
 
+// Copies the bytes of a value into `buf`. A buffer of another length is denied with 5, and left as it was.
+pub(crate) fn put<const N: usize>(bytes: [u8; N], buf: &mut [u8]) -> Result<(), Denial>
+    ensures answer { result ≡ (if nat_eq (length buf.old) N then Ok tt else Err WrongLength) }
+    ensures after { buf.new ≡ (if nat_eq (length buf.old) N then bytes.entry else buf.old) }
+{
+    // no `<&mut [u8; N]>::try_from(buf)`: of what is written through its answer the proof is not found
+    if buf.len() != N {
+        return Err(Denial::WrongLength);
+    }
+    buf.copy_from_slice(&bytes);
+    Ok(())
+}
+
+// The bytes of a value that stand in `buf`. A buffer of another length is denied with 5.
+pub(crate) fn taken<const N: usize>(buf: &[u8]) -> Result<[u8; N], Denial>
+    ensures answer { result ≡ (if nat_eq (length buf.now) N then Ok buf.now else Err WrongLength) }
+{
+    <[u8; N]>::try_from(buf).map_err(|_| Denial::WrongLength)
+}
+
 /// Writes a value and reads it back: the law of line kinds, as a call. Denied with 5 as writing is.
 pub fn write_then_read<K: LineKind>(value: K, buf: &mut [u8]) -> Result<K, Denial>
     ensures answer { result ≡ (if nat_eq (length buf.old) K.LineKind.width then Ok value else Err WrongLength) }

@@ -5,7 +5,7 @@ ghost use Rattle.line.specs.Loads.{LoadFits, load_bytes, load_of, load_text};
 ghost use Rattle.std.proofs.Common.{rules};
 
 use crate::denial::Denial;
-use crate::kind::LineKind;
+use crate::kind::{LineKind, put, taken};
 use std::fmt;
 
 /// What the ship was doing. Values past the four named ones have no name, and are kept as they are.
@@ -88,17 +88,11 @@ impl LineKind for Load {
     }
 
     fn write_to(&self, buf: &mut [u8]) -> Result<(), Denial> {
-        let bytes = <[u8; 16]>::from(*self);
-        // No `<&mut [u8; 16]>::try_from(buf)`: of what is written through its answer the proof is not found.
-        if buf.len() != 16 {
-            return Err(Denial::WrongLength);
-        }
-        buf.copy_from_slice(&bytes);
-        Ok(())
+        put(<[u8; 16]>::from(*self), buf)
     }
 
     fn read_from(buf: &[u8]) -> Result<Load, Denial> {
-        let bytes = <[u8; 16]>::try_from(buf).map_err(|_| Denial::WrongLength)?;
+        let bytes: [u8; 16] = taken(buf)?;
         Ok(Load::from(bytes))
     }
 }

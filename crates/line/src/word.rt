@@ -5,7 +5,7 @@ ghost use Rattle.line.specs.Words.{at64, bytes64};
 ghost use Rattle.std.proofs.Common.{rules};
 
 use crate::denial::Denial;
-use crate::kind::LineKind;
+use crate::kind::{LineKind, put, taken};
 
 impl LineKind for u64 {
     ghost width = { 8 };
@@ -27,17 +27,11 @@ impl LineKind for u64 {
     }
 
     fn write_to(&self, buf: &mut [u8]) -> Result<(), Denial> {
-        let bytes = self.to_le_bytes();
-        // No `<&mut [u8; 8]>::try_from(buf)`: of what is written through its answer the proof is not found.
-        if buf.len() != 8 {
-            return Err(Denial::WrongLength);
-        }
-        buf.copy_from_slice(&bytes);
-        Ok(())
+        put(self.to_le_bytes(), buf)
     }
 
     fn read_from(buf: &[u8]) -> Result<u64, Denial> {
-        let bytes = <[u8; 8]>::try_from(buf).map_err(|_| Denial::WrongLength)?;
+        let bytes: [u8; 8] = taken(buf)?;
         Ok(u64::from_le_bytes(bytes))
     }
 }

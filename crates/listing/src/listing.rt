@@ -10,6 +10,7 @@ use runner::totals::Totals;
 use std::fmt;
 
 /// What a run prints: one line for its fault; or one that says that no layer is fitted, one for each request and one for the totals.
+// An enum and no `Result`: either is what is printed, and nobody handles one of them as an error.
 #[derive(Clone, Copy)]
 pub enum Listing<'a> {
     Faulty(Fault),

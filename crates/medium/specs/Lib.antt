@@ -3,3 +3,4 @@ pub mod Chain
 pub mod Law
 pub mod Meaning
 pub mod Pile
+pub mod Fits

@@ -9,6 +9,7 @@ use line::answer::{Accepted, Answer};
 use line::load::{Activity, Load};
 use media::bytes::ByteMedium;
 use medium::call::Call;
+use medium::left::left;
 use medium::medium::Medium;
 use refresher::layer::RefreshLayer;
 use scatter::layer::ScatterLayer;
@@ -57,7 +58,7 @@ fn drive<M: Medium<Line = Load>>(
         }
     }
     let taken = (*pile).taken();
-    let left = (*pile).life() - taken;
+    let left = left(&*pile);
     let wear = (*pile).wear();
     println!(rt; "taken {taken} left {left} wear {wear}")?;
     Ok(())

@@ -135,6 +135,7 @@ fn fill_slots(mut requests: CheckedRequests<'_>, slots: &mut [Slot])
     ensures slots { slots.new ≡ map slot_at (requests_left requests.entry) ++ drop (length (requests_left requests.entry)) slots.old }
 {
     // No `zip`: of slots that an adapter of `iter_mut` lends, only their number is known afterwards.
+    // no `zip`: of slots written through one a proof knows nothing afterwards
     for slot in slots.iter_mut() {
         let Some(request) = requests.next() else {
             return;
@@ -175,7 +176,7 @@ pub fn read_requests<'a>(
 ) -> Result<(Run, CheckedRequests<'a>), Fault>
     ensures answer { reading_in result ≡ reading file.now (length slots.old) }
     ensures slots { slots.new ≡ slots_after (reading file.now (length slots.old)) slots.old }
-    ensures exact { Exact file.now (length slots.old) (run_in (reading file.now (length slots.old))) }
+    ensures exact { Exact file.now (length slots.old) (run_in (reading_in result)) }
     ensures one { OneMeaning file.now }
     ensures back { ReadBack }
 {

@@ -17,6 +17,7 @@ use runfile::request::Request;
 /// The requests that are left of a file, up to its trailer.
 #[derive(Clone, Copy)]
 pub struct Requests<'a> {
+    // whole, with the end beside it, since public clauses name both and faults count from the file's end
     file: &'a [u8],
     at: usize,
     end: usize,

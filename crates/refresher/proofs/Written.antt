@@ -3,6 +3,7 @@
 -- and each copy count alike on both sides.
 use Rattle.std.proofs.Common.{◌≡◌, ℕ, ◌+◌, ◌-◌, ◌/◌, ◌%◌, ◌^◌, ◌<◌, ◌≤◌, ◌⊎◌, List, [], ◌∷◌, ◌++◌, length, get_or, set, Some, None, Ok, Err, sym, refl, ap, ◌∙◌, subst, inl, inr, ⊎_elim, arith}
 use Rattle.std.proofs.lemmas.Bool.{cases_lt}
+use Rattle.std.proofs.lemmas.Bool.Decides.{nat_tests}
 use Rattle.std.proofs.lemmas.List.{length-set}
 use Rattle.line.specs.declared.denial.Denial.{Denial}
 use Rattle.refresh.specs.Refresh.{Registers, pointer_mate, previous_place, current_place, place_of, write_copies, after_write, refreshed, Sound}
@@ -18,11 +19,18 @@ use Rattle.medium.specs.declared.medium.Medium.{Ghosts}
 use Rattle.medium.proofs.Arrays.{accepts_read, accepts_write, next_accepted, fetched_by, wrote_accepted}
 use Rattle.medium.proofs.Chains.{chained_none, chained_read, chained_write}
 use Rattle.medium.proofs.Layers.{placed_in, placed_at, fetched_same, fetched_is, paid_yes, paid_below, Asked, asked_read, asked_write, asked_more, layer_accepted}
-use Rattle.refresher.specs.Layer.{registers, due_exchange, refresh_lines, refresh_life, refresh_array}
+use Rattle.refresher.specs.Layer.{registers, due_exchange, refresh_lines, refresh_life, refresh_array, place_answer}
 use Rattle.refresher.specs.declared.layer.RefreshLayer.{RefreshLayer}
 use Rattle.refresher.specs.declared.registers.Exchange.{Exchange}
 use Rattle.refresher.proofs.Held.{Held, held_of, held_sound, pays_write, pays_exchange}
 use Rattle.refresher.proofs.Lines.{place_stays, mate_stays, previous_stays, current_stays, lines_set, lines_unexchanged, lines_exchanged}
+
+-- what the answer on a place says
+pub placed : {A : Type 0} (g : Registers) (b : Array A) (i p : ℕ) → Ok p ≡ place_answer g b i → (i < length (refresh_lines g b)) × (p ≡ place_of g.round i)
+placed g b i p e = grind (arith, nat_tests)
+
+pub not_placed : {A : Type 0} (g : Registers) (b : Array A) (i : ℕ) (d : Denial) → Err d ≡ place_answer g b i → length (refresh_lines g b) ≤ i
+not_placed g b i d e = grind (arith, nat_tests)
 
 pub fetched_never : {A : Type 0} (ls : List A) (i : ℕ) (d : Denial) → i < length ls → Err d ≡ fetched ls i → ⊥
 fetched_never [] i d h q = omega arith

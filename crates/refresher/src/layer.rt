@@ -51,7 +51,8 @@ impl<M: Medium> RefreshLayer<M> {
     ghost use Rattle.refresh.specs.Powers.{greatest_power};
     ghost use Rattle.refresh.specs.Refresh.{Sound, new_registers};
     ghost use Rattle.medium.specs.Array.{fetched};
-    ghost use Rattle.medium.specs.Law.{left as left_of, Fitted};
+    ghost use Rattle.medium.specs.Fits.{IsFitted};
+    ghost use Rattle.medium.specs.Law.{left as left_of};
     ghost use Rattle.medium.specs.Pile.{made_by};
     ghost use Rattle.refresher.specs.Layer.{place_answer, holder_answer, Made, MadeUnfit};
 
@@ -61,7 +62,7 @@ impl<M: Medium> RefreshLayer<M> {
         ensures kept { result.below ≡ below }
         ensures fit { refresh_survey (length ring.now) interval (length (M.Medium.lines below)) (left_of (means M.Medium below)) ≡ Ok tt → Made (new_registers (greatest_power (length (M.Medium.lines below))) interval ring.now) (means ⟦<RefreshLayer<M> as Medium>⟧ result) (means M.Medium below) (⟦<RefreshLayer<M> as Medium>⟧.wear result) (M.Medium.wear below) (⟦<RefreshLayer<M> as Medium>⟧.pile result) (M.Medium.pile below) }
         ensures unfit { (d : Denied) → refresh_survey (length ring.now) interval (length (M.Medium.lines below)) (left_of (means M.Medium below)) ≡ Err d → MadeUnfit (registers result.registers) (means ⟦<RefreshLayer<M> as Medium>⟧ result) (means M.Medium below) (⟦<RefreshLayer<M> as Medium>⟧.wear result) (M.Medium.wear below) (⟦<RefreshLayer<M> as Medium>⟧.pile result) (M.Medium.pile below) }
-        ensures fitted { Fitted (means M.Medium below) (M.Medium.wear below) (M.Medium.pile below) → Fitted (means ⟦<RefreshLayer<M> as Medium>⟧ result) (⟦<RefreshLayer<M> as Medium>⟧.wear result) (⟦<RefreshLayer<M> as Medium>⟧.pile result) }
+        ensures fitted { IsFitted M.Medium below → IsFitted ⟦<RefreshLayer<M> as Medium>⟧ result }
     {
         let count = below.count();
         let left = left(&below);
@@ -159,10 +160,8 @@ impl<M: Medium> Medium for RefreshLayer<M> {
     }
 
     fn read(&self, line: u16) -> Result<M::Line, Denial> {
-        if line >= self.count() {
-            return Err(Denial::NoSuchLine);
-        }
-        self.below.read(self.registers.place(line))
+        let place = self.where_is(line)?;
+        self.below.read(place)
     }
 
     fn write(&mut self, line: u16, value: M::Line) -> Result<u64, Denial> {

@@ -19,7 +19,7 @@ pub(crate) struct Exchange {
 // How the lines of a layer lie, and what its next writes bring.
 #[derive(Drop)]
 pub(crate) struct Registers {
-    // how many lines there are, 0 where the settings do not fit
+    // how many lines there are, 0 where the settings do not fit: no `Option`, since no lines is what an unfit layer has
     size: u16,
     // how many writes bring a refresh
     interval: u16,

@@ -40,11 +40,10 @@ impl fmt::Display for Stage {
     ghost output = { λ s. Some (stage_text s) };
 
     fn fmt<W: fmt::Write>(&self, f: &mut fmt::Formatter<W>) -> fmt::Result {
+        let letter = self.letter();
         match *self {
-            Stage::Trailer => write!(f, "T"),
-            Stage::Settings => write!(f, "S"),
-            Stage::Request => write!(f, "Q"),
-            Stage::Pile { height } => write!(f, "P{height}"),
+            Stage::Pile { height } => write!(f, "{letter}{height}"),
+            _ => write!(f, "{letter}"),
         }
     }
 }

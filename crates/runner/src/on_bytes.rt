@@ -11,6 +11,7 @@ use crate::play::carry_out;
 use crate::totals::Totals;
 use line::load::Load;
 use media::bytes::ByteMedium;
+use medium::left::left;
 use medium::medium::Medium;
 use reader::requests::CheckedRequests;
 use runfile::slot::Slot;
@@ -35,7 +36,7 @@ pub(crate) fn on_bytes(
     Totals {
         requests: slots.len(),
         taken: medium.taken(),
-        left: medium.life() - medium.taken(),
+        left: left(&medium),
         copies: 0,
         wear: medium.wear(),
     }

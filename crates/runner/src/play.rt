@@ -51,6 +51,7 @@ pub(crate) fn carry_out<M: Medium<Line = Load>>(
     ensures memory { M.Medium.memory medium.new ≡ M.Medium.memory medium.old }
     ensures played { Played M.Medium medium.old (calls_of (requests_left requests.entry)) slots.old slots.new medium.new }
 {
+    // no `zip`: of slots written through one a proof knows nothing afterwards
     for slot in slots.iter_mut() {
         let Some(request) = requests.next() else {
             unreachable();

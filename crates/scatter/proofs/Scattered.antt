@@ -3,6 +3,7 @@ use Rattle.std.proofs.Common.{◌≡◌, ℕ, ◌+◌, ◌-◌, ◌<◌, ◌≤�
 use Rattle.std.specs.Prelude.{nat_le, Result, MatchResult, Err}
 use Rattle.line.specs.declared.denial.Denial.{Denial}
 use Rattle.std.proofs.lemmas.Bool.{cond-true, cond-false, cases_lt, le-leb, lt-leb}
+use Rattle.std.proofs.lemmas.Bool.Decides.{nat_tests}
 use Rattle.std.proofs.lemmas.List.{length-set, get_or-set_same, get_or-set_other}
 use Rattle.shuffle.specs.Permutations.{Undoes}
 use Rattle.medium.specs.Array.{Array, denied_by, accepted, fetched, Wrote}
@@ -12,7 +13,14 @@ use Rattle.medium.proofs.Arrays.{accepts_read, accepts_write, next_accepted, wro
 use Rattle.medium.proofs.Layers.{placed_in, placed_at, placed_same, fetched_same, paid_below, paid_yes, Asked, asked_read, asked_write, layer_accepted}
 use Rattle.medium.specs.Law.{left, MadeOver}
 use Rattle.medium.proofs.Fittings.{unfit_means}
-use Rattle.scatter.specs.Scatters.{scatter_size, scatter_lines, scatter_survey}
+use Rattle.scatter.specs.Scatters.{scatter_size, scatter_lines, scatter_survey, scatter_place}
+
+-- what the answer on a place says
+pub placed : (n : ℕ) (f : ℕ → ℕ) (i p : ℕ) → Ok p ≡ scatter_place n f i → (i < n) × (p ≡ f i)
+placed n f i p e = grind (arith, nat_tests)
+
+pub not_placed : (n : ℕ) (f : ℕ → ℕ) (i : ℕ) (d : Denial) → Err d ≡ scatter_place n f i → n ≤ i
+not_placed n f i d e = grind (arith, nat_tests)
 
 -- the size of a scatter that was fit
 size_fit : (life span : ℕ) → 1 ≤ life → scatter_size life span ≡ span

@@ -3,7 +3,8 @@
 ghost use Rattle.std.specs.Prelude.{◌≡◌, ℕ, ◌+◌, ◌-◌, ◌≤◌, length, IfOk};
 ghost use Rattle.medium.specs.Array.{fetched};
 ghost use Rattle.medium.specs.Chain.{LayerEffect};
-ghost use Rattle.medium.specs.Law.{left, MadeOver, Fitted};
+ghost use Rattle.medium.specs.Fits.{IsFitted};
+ghost use Rattle.medium.specs.Law.{left, MadeOver};
 ghost use Rattle.medium.specs.Meaning.{means};
 ghost use Rattle.medium.specs.Pile.{over, scatter, paid_life, made_by};
 ghost use Rattle.scatter.specs.Scatters.{scatter_survey, scatter_size, scatter_lines, scatter_place, scatter_holder};
@@ -31,7 +32,7 @@ pub fn survey(span: u16, count: u16, left: u32) -> Result<(), Denial>
 pub struct ScatterLayer<S, M> {
     shuffle: S,
     below: M,
-    // at least 1 in a layer that was fit to be made, and 0 in an unfit one
+    // at least 1 in a layer that was fit to be made, and 0 in an unfit one: no `Option`, which each call would open to find no life
     life: u32,
     taken: u32,
     ghost within: { taken ≤ life },
@@ -42,7 +43,7 @@ impl<S: Shuffle, M: Medium> ScatterLayer<S, M> {
     pub fn new(shuffle: S, below: M) -> ScatterLayer<S, M>
         ensures kept { (result.shuffle ≡ shuffle) × (result.below ≡ below) }
         ensures made { MadeOver (scatter_survey (S.Shuffle.span shuffle) (length (M.Medium.lines below)) (left (means M.Medium below))) (scatter (S.Shuffle.span shuffle) (S.Shuffle.forward shuffle)) (means M.Medium below) (M.Medium.wear below) (M.Medium.pile below) (⟦<ScatterLayer<S, M> as Medium>⟧.pile result) (means ⟦<ScatterLayer<S, M> as Medium>⟧ result) (⟦<ScatterLayer<S, M> as Medium>⟧.wear result) }
-        ensures fitted { Fitted (means M.Medium below) (M.Medium.wear below) (M.Medium.pile below) → Fitted (means ⟦<ScatterLayer<S, M> as Medium>⟧ result) (⟦<ScatterLayer<S, M> as Medium>⟧.wear result) (⟦<ScatterLayer<S, M> as Medium>⟧.pile result) }
+        ensures fitted { IsFitted M.Medium below → IsFitted ⟦<ScatterLayer<S, M> as Medium>⟧ result }
     {
         let left = left(&below);
         let life = survey(shuffle.span(), below.count(), left).map_or(0, |()| left);
@@ -138,10 +139,8 @@ impl<S: Shuffle, M: Medium> Medium for ScatterLayer<S, M> {
     }
 
     fn read(&self, line: u16) -> Result<M::Line, Denial> {
-        if line >= self.count() {
-            return Err(Denial::NoSuchLine);
-        }
-        self.below.read(self.shuffle.forward(line))
+        let place = self.where_is(line)?;
+        self.below.read(place)
     }
 
     fn write(&mut self, line: u16, value: M::Line) -> Result<u64, Denial> {

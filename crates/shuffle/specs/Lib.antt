@@ -9,3 +9,4 @@ pub mod Split
 pub mod Undoing
 pub mod Networks
 pub mod Xored
+pub mod Making

@@ -1,11 +1,11 @@
 //! The Feistel shuffle: a stage for each of three keys, over the two halves of a number.
 
-ghost use Rattle.std.specs.Prelude.{◌≡◌, ◌^◌, ◌<◌, ◌≤◌, IfOk, MatchResult};
-ghost use Rattle.line.specs.declared.denial.Denial.TheVariants.{SettingsOutOfRange};
+ghost use Rattle.std.specs.Prelude.{◌≡◌, ◌^◌, ◌<◌, ◌≤◌, IfOk};
 ghost use Rattle.shuffle.specs.Network.{network_span};
 ghost use Rattle.shuffle.specs.Feistel.{round, feistel_span, feistel_forward, feistel_back};
 ghost use Rattle.shuffle.specs.Powers.{four_few};
 ghost use Rattle.shuffle.specs.Rounds.{feistel_undoes};
+ghost use Rattle.shuffle.specs.Making.{MadeInRange};
 
 use crate::shuffle::Shuffle;
 use crate::width::Width;
@@ -21,7 +21,7 @@ pub struct Feistel {
 impl Feistel {
     /// The shuffle of half-width `n` with these keys, of each of which the low `n` bits count. An `n` that is not from 1 to 6 is denied with 6.
     pub fn new(n: u8, keys: [u16; 3]) -> Result<Feistel, Denial>
-        ensures cases { MatchResult result (λ _. (1 ≤ n) × (n ≤ 6)) (λ e. (e ≡ SettingsOutOfRange) × ((1 ≤ n) × (n ≤ 6) → ⊥)) }
+        ensures cases { MadeInRange 6 n result }
         ensures span { IfOk result (λ s. ⟦<Feistel as Shuffle>⟧.span s ≡ 4 ^ n) }
         ensures forward { IfOk result (λ s. ⟦<Feistel as Shuffle>⟧.forward s ≡ feistel_forward n keys) }
         ensures back { IfOk result (λ s. ⟦<Feistel as Shuffle>⟧.back s ≡ feistel_back n keys) }

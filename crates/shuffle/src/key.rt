@@ -1,9 +1,9 @@
 //! The key shuffle: a number xor the low bits of a key.
 
-ghost use Rattle.std.specs.Prelude.{◌≡◌, ◌^◌, ◌≤◌, IfOk, MatchResult};
-ghost use Rattle.line.specs.declared.denial.Denial.TheVariants.{SettingsOutOfRange};
+ghost use Rattle.std.specs.Prelude.{◌≡◌, ◌^◌, ◌≤◌, IfOk};
 ghost use Rattle.shuffle.specs.Key.{key_span, key_forward, key_back};
 ghost use Rattle.shuffle.specs.Xored.{key_few, key_undoes};
+ghost use Rattle.shuffle.specs.Making.{MadeInRange};
 
 use crate::shuffle::Shuffle;
 use crate::width::Width;
@@ -19,7 +19,7 @@ pub struct KeyShuffle {
 impl KeyShuffle {
     /// The shuffle of the numbers of `n` bits with this key, of which the low `n` bits count. An `n` that is not from 1 to 12 is denied with 6.
     pub fn new(n: u8, key: u16) -> Result<KeyShuffle, Denial>
-        ensures cases { MatchResult result (λ _. (1 ≤ n) × (n ≤ 12)) (λ e. (e ≡ SettingsOutOfRange) × ((1 ≤ n) × (n ≤ 12) → ⊥)) }
+        ensures cases { MadeInRange 12 n result }
         ensures span { IfOk result (λ s. ⟦<KeyShuffle as Shuffle>⟧.span s ≡ 2 ^ n) }
         ensures forward { IfOk result (λ s. ⟦<KeyShuffle as Shuffle>⟧.forward s ≡ key_forward n key) }
         ensures back { IfOk result (λ s. ⟦<KeyShuffle as Shuffle>⟧.back s ≡ key_back n key) }
