@@ -1,12 +1,13 @@
 -- What the fields of a layer keep true, and what it means by them. The registers are sound, so places and lines follow the laws of
 -- regions; and copies * interval, with what is due, is taken, so that the life pays for each copy before it is made.
-use Rattle.std.proofs.Common.{◌≡◌, ℕ, ◌+◌, ◌*◌, ◌/◌, ◌<◌, ◌≤◌, ◌≢◌, List, [], ◌∷◌, length, get_or, None, Ok, Err, refl, ap, ◌∙◌, subst, add-mul, le-div_iff_mul-le, arith}
+use Rattle.std.proofs.Common.{◌≡◌, ℕ, ◌+◌, ◌*◌, ◌/◌, ◌<◌, ◌≤◌, ◌≢◌, List, [], ◌∷◌, length, get_or, None, Ok, Err, refl, ap, ◌∙◌, subst, arith}
 use Rattle.std.proofs.lemmas.Bool.Decides.{nat_tests}
 use Rattle.std.proofs.lemmas.List.Sums.{get_or-le-sum_by}
 use Rattle.line.specs.declared.denial.Denial.{Denial}
 use Rattle.startgap.specs.declared.row.Row.{Row}
 use Rattle.startgap.specs.Rows.{row_place, row_counted, row_moved}
 use Rattle.startgap.specs.Regions.{Gaps, GapsSound, no_row, row_at, line_count, place_count, gap_place, gap_holder, with_row, after_write, total_due}
+use Rattle.startgap.proofs.Paid.{copies_paid, move_paid as copy_paid}
 use Rattle.startgap.proofs.Regions.{place_at, place_within, holder_past}
 use Rattle.startgap.proofs.Runs.{write_interval, write_sum}
 use Rattle.startgap.proofs.Writes.{write_counts, write_moves, line_low}
@@ -39,14 +40,6 @@ sound_of x =
 
 pub fields : {M : Type 0} (x : GapLayer M) → Held (registers x.regions) x.taken x.life
 fields x = record { within = x.within; sound = sound_of x.regions; counted = x.counted }
-
--- what the life still pays for, before a write and before a move
-pays_one : (life taken copies interval due : ℕ) → 0 < interval → copies * interval + due ≡ taken → taken < life → copies ≤ life / interval
-pays_one life taken copies interval due hi e h = (le-div_iff_mul-le hi).1 (omega arith)
-
-pays_two : (life taken copies interval due one : ℕ) → 0 < interval → copies * interval + due ≡ taken → one ≤ due → one + 1 ≡ interval → taken < life
-    → copies + 1 ≤ life / interval
-pays_two life taken copies interval due one hi e ho hd h = (le-div_iff_mul-le hi).1 (let m = add-mul copies 1 interval in omega arith)
 
 -- a line that is there is never denied
 pub fetched_never : {A : Type 0} (ls : List A) (i : ℕ) (e : Denial) → i < length ls → Err e ≡ fetched ls i → ⊥
@@ -121,7 +114,7 @@ module _ {A : Type 0} (g : Gaps) (life taken : ℕ) (held : Held g taken life) (
       let m = paid_below life taken (life + life / g.interval) (taken + g.copies + left b) k in
       let e = m.1 in
       let tl : taken < life = omega arith in
-      (tl, m.0, pays_one life taken g.copies g.interval (total_due g.rows) held.sound.paced held.counted tl)
+      (tl, m.0, copies_paid life taken g.copies g.interval (total_due g.rows) held.sound.paced held.counted held.within)
 
   pub write_accepted : (i p : ℕ) (v : A) → i < length (gap_lines g b.lines) → taken < gap_life g life taken (left b) → p ≡ gap_place g i
       → denied_by b (Write p v) ≡ None
@@ -139,7 +132,7 @@ module _ {A : Type 0} (g : Gaps) (life taken : ℕ) (held : Held g taken life) (
   move_paid i h k d =
       let l = write_paid k in
       let low = line_low g held.sound i (line_there g held.sound b.lines i h).0 in
-      pays_two life taken g.copies g.interval (total_due g.rows) (row_at g (i / g.size)).due held.sound.paced held.counted
+      copy_paid life taken g.copies g.interval (total_due g.rows) (row_at g (i / g.size)).due held.sound.paced held.counted
       (get_or-le-sum_by (λ (w : Row). w.due) g.rows (i / g.size) no_row low) d l.0
 
 -- ---- after an accepted write: the copies made, times interval, with what is due, are one more

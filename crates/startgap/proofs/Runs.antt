@@ -7,12 +7,11 @@ use lib.Arith.{digits_div, digits_mod}
 use Rattle.std.specs.List.{AllByRecursion}
 use Rattle.std.proofs.lemmas.List.{length-append, get_or_append_left, get_or-append_right}
 use Rattle.std.proofs.ByRecursion.{All-get_or}
-use Rattle.std.proofs.lemmas.List.Sums.{get_or-le-sum_by}
 use Rattle.std.proofs.lemmas.Bool.{cases_lt, cases_eq, eq-eqb, ne_eqb}
 use Rattle.startgap.specs.declared.row.Row.{Row}
 use Rattle.line.specs.Copies.{Copy, no_copy, times}
 use Rattle.startgap.specs.Rows.{new_row, row_counted, row_moved}
-use Rattle.startgap.specs.Regions.{Gaps, GapsSound, new_gaps, no_row, row_at, line_count, region_copy, write_copies, after_write, AllLines, gaps_after, gaps_copies, total_due, writes_in, moves_in}
+use Rattle.startgap.specs.Regions.{Gaps, GapsSound, new_gaps, row_at, line_count, region_copy, write_copies, after_write, AllLines, gaps_after, gaps_copies, total_due, writes_in, moves_in}
 use Rattle.startgap.specs.Theorems.{Fit, Carries, CarriedAt, CopiesCarry, row_after_writes, Registers}
 use Rattle.startgap.proofs.Rows.{moved_due, moved_high, moved_zero}
 use Rattle.startgap.proofs.Regions.{line_region, gap_region, new_row_at, new_sound, new_in_order}
@@ -149,9 +148,6 @@ all_carry g s (line ∷ lines) a n h =
     (cases_lt n (length own))
 
 -- ---- the sum of all dues
-pub row_due_below : (g : Gaps) (region : ℕ) → region < length g.rows → (row_at g region).due ≤ total_due g.rows
-row_due_below g region h = get_or-le-sum_by (λ (w : Row). w.due) g.rows region no_row h
-
 pub write_sum : (g : Gaps) → GapsSound g → (line : ℕ) → line < line_count g
     → (after_write g line).copies * g.interval + total_due (after_write g line).rows ≡ g.copies * g.interval + total_due g.rows + 1
 write_sum g s line h =
@@ -180,9 +176,6 @@ after_sum g s (line ∷ lines) a =
     let i = after_sum (after_write g line) (write_sound g s line a.0) lines a.1 in
     let o = write_sum g s line a.0 in
     omega arith
-
-pub new_total_due : (R K interval : ℕ) → total_due (new_gaps R K interval).rows ≡ 0
-new_total_due R K interval = refl
 
 pub new_after_sum : (R K interval : ℕ) → Fit R K interval → (lines : List ℕ) → AllLines (new_gaps R K interval) lines
     → (gaps_after (new_gaps R K interval) lines).copies * interval + total_due (gaps_after (new_gaps R K interval) lines).rows ≡ length lines

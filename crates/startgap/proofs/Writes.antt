@@ -23,10 +23,6 @@ set_keeps P Q rows region w all here k q = ⊎_elim
     (λ ne. subst P (sym (get_or-set_other rows region k w no_row ne)) (all k q))
     (cases_eq k region)
 
-pub set_every : (P : Row → Type 0) (rows : List Row) (region : ℕ) (w : Row)
-    → ((k : ℕ) → P (get_or rows k no_row)) → P w → (k : ℕ) → P (get_or (set rows region w) k no_row)
-set_every P rows region w all here k = set_keeps P (λ _. Unit {0}) rows region w (λ j _. all j) here k tt
-
 -- ---- the registers with another row for one region
 module _ (g : Gaps) (region : ℕ) (w : Row) (n : ℕ) where
   pub row_here : region < length g.rows → row_at (with_row g region w n) region ≡ w

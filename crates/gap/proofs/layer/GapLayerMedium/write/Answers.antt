@@ -1,6 +1,6 @@
 -- Denials alter nothing. Otherwise the write below is accepted, as the life pays for it, and so is a due copy; what follows is as the
 -- lemmas on counted writes and on moves have it.
-use Rattle.std.proofs.Common.{◌≡◌, ℕ, ◌+◌, ◌/◌, ◌≢◌, [], Some, Ok, sym, refl, ap, ◌∙◌, subst, arith}
+use Rattle.std.proofs.Common.{◌≡◌, ℕ, ◌+◌, ◌/◌, ◌≢◌, [], Some, Ok, sym, refl, ap, ◌∙◌, subst, arith, ◌%◌, ◌^◌}
 use Rattle.startgap.specs.Regions.{row_at, gap_place, after_write}
 use Rattle.line.specs.declared.denial.Denial.TheVariants.{NoSuchLine, LifeUsed}
 use Rattle.medium.specs.Array.{denied_by}
@@ -116,9 +116,9 @@ returns g c =
           record { due = rw c.split-region.ensures.parts at w.in-Some.ensures; read = w.in_ok-moved-in-Some.ensures.answer; wrote = more.answer } in
           let second : WriteStep g.M.Medium c.write.new.self step.to y (Ok t2) last =
           record { answer = more.answer; below = more.below; effect = more.effect } in
-          rw (w.self-is, w.more-is)
+          rw w.self-is
           (record {
-            answer = moved_wrote begun copied turned _ refl;
+            answer = moved_wrote begun copied turned _ (ap (λ m. (t1 + m) % 2 ^ 64) w.more-is);
             below = moved_served begun copied turned pile pile1 (g.M.Medium.pile last) c.in_ok-toll.ensures.below w.in_ok-moved-in-Some.ensures.below more.below;
             memory = more.memory ∙ c.in_ok-toll.ensures.memory;
             effect =
@@ -129,9 +129,9 @@ returns g c =
           })
       | in-None w ↦
           let not_due : (row_at G (c.args.line / G.size)).due + 1 ≢ G.interval = rw c.split-region.ensures.parts at w.in-None.ensures in
-          rw (w.self-is, w.more-is)
+          rw w.self-is
           (record {
-            answer = counted_wrote begun turned not_due _ refl;
+            answer = counted_wrote begun turned not_due _ (ap (λ m. (t1 + m) % 2 ^ 64) w.more-is);
             below = counted_served begun turned not_due pile pile1 c.in_ok-toll.ensures.below;
             memory = c.in_ok-toll.ensures.memory;
             effect =
