@@ -62,7 +62,7 @@ pub(crate) fn put_request(file: &mut Vec<u8>, request: Request)
         }
         Request::Write { line, load } => {
             let mut bytes = [0; 16];
-            let _ = load.write_to(&mut bytes);
+            load.write_to(&mut bytes).unwrap();
             put(file, b"w");
             put(file, &line.to_le_bytes());
             put(file, &bytes);
