@@ -1,16 +1,15 @@
 -- The whole: the settings' lines and then the requests' give what the text says, and their bytes one after another are the run file.
-use Rattle.std.proofs.Common.{◌≡◌, ℕ, List, ◌++◌, length, Ok, Result, sym, ap, ◌∙◌, append_assoc}
+use Rattle.std.proofs.Common.{◌≡◌, ℕ, List, ◌++◌, length, Ok, sym, ap, ◌∙◌, append_assoc}
 use Rattle.runfile.specs.Asks.{Ask}
 use Rattle.runfile.specs.RunFile.{asks_bytes, settings_bytes, trailer_bytes}
 use Rattle.runfile.specs.declared.settings.Settings.{Settings}
-use Rattle.compose.specs.declared.refusal.Fault.{Fault}
 use Rattle.compose.specs.declared.text.Lines.{Lines}
-use Rattle.compose.specs.Fields.{then}
 use Rattle.compose.specs.Lines.{Entry, entries, last_number}
 use Rattle.compose.specs.Pieces.{pieces, pieces_of}
-use Rattle.compose.specs.Scripts.{Script, asks_in, script_in, script_of, file_of}
+use Rattle.compose.specs.Scripts.{asks_in, script_in, script_of, file_of}
 use Rattle.compose.specs.Settings.{settings_in, after_settings}
 use Rattle.compose.specs.Taken.{lines_in, last_in}
+use Rattle.compose.proofs.Asking.{then_go}
 
 -- the lines of a text, none of which is taken yet
 abbrev pub Opened : List ℕ → Lines → Type 0
@@ -21,21 +20,10 @@ opened_script text l o =
     sym (ap (λ (ps : List (List ℕ)). script_in (last_number l.number ps) (entries l.number ps)) o.0
     ∙ ap (λ (n : ℕ). script_in (last_number n (pieces 10 text)) (entries n (pieces 10 text))) o.1)
 
-after_settings_are : (last : ℕ) (es : List Entry) (r : Result Settings Fault) → r ≡ settings_in last es
-    → script_in last es ≡ then r (λ s. then (asks_in 0 (after_settings es)) (λ qs. Ok (record { settings = s; asks = qs })))
-after_settings_are last es r h =
-    ap (λ (z : Result Settings Fault). then {Y = Script} z (λ s. then (asks_in 0 (after_settings es)) (λ qs. Ok (record { settings = s; asks = qs })))) (sym h)
-
--- what the requests give, after the settings
-asks_are : (text : List ℕ) (l : Lines) (s : Settings) (es : List Entry) (r : Result (List Ask) Fault) → Opened text l → Ok s ≡ settings_in (last_in l) (lines_in l)
-    → es ≡ after_settings (lines_in l) → asks_in 0 es ≡ r → script_of text ≡ then r (λ qs. Ok (record { settings = s; asks = qs }))
-asks_are text l s es r o h e a =
-    opened_script text l o ∙ after_settings_are (last_in l) (lines_in l) (Ok s) h
-    ∙ ap (λ (z : Result (List Ask) Fault). then {Y = Script} z (λ qs. Ok (record { settings = s; asks = qs }))) (ap (asks_in 0) (sym e) ∙ a)
-
+-- the settings, and then the requests
 pub script_is : (text : List ℕ) (l : Lines) (s : Settings) (es : List Entry) (qs : List Ask) → Opened text l → Ok s ≡ settings_in (last_in l) (lines_in l)
     → es ≡ after_settings (lines_in l) → asks_in 0 es ≡ Ok qs → script_of text ≡ Ok (record { settings = s; asks = qs })
-script_is text l s es qs o h e a = asks_are text l s es (Ok qs) o h e a
+script_is text l s es qs o h e a = opened_script text l o ∙ then_go _ (sym h) ∙ then_go _ (ap (asks_in 0) (sym e) ∙ a)
 
 -- the bytes
 pub file_is : (s : Settings) (qs : List Ask) (size number : ℕ) (xs ys zs ws : List ℕ) → ys ≡ xs ++ settings_bytes 0 s → zs ≡ ys ++ asks_bytes qs → ws ≡ zs ++ trailer_bytes size number
