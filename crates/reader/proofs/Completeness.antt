@@ -18,9 +18,7 @@ use Rattle.reader.proofs.Soundness.{passed_says, passed_number}
 use Rattle.reader.proofs.Spelling.{spelled_found}
 
 letter_known : (p : ℕ) → PileLetter p → known_pile p ≡ true
-letter_known p h =
-    ⊎_elim (λ (e : p ≡ 65). ap known_pile e)
-    (λ (b : (p ≡ 66) ⊎ (p ≡ 67)). ⊎_elim (λ (e : p ≡ 66). ap known_pile e) (λ (e : p ≡ 67). ap known_pile e) b) h
+letter_known p h = grind arith
 
 -- what the reader finds in a file that says s and qs, after a lead of this length
 record Finds (f : List ℕ) (s : Settings) (qs : List Ask) (lead slots : ℕ) : Type 0 where

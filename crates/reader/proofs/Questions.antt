@@ -2,6 +2,7 @@
 -- its links is, and a link is empty just where its test is false.
 use Rattle.std.proofs.Common.{◌≡◌, ℕ, ◌+◌, ◌-◌, ◌<◌, ◌≤◌, Bool, true, false, ◌||◌, eqb, List, length, get_or, Some, None, Ok, Err, Option, Result, refl, ap, ◌∙◌, subst, arith}
 use Rattle.std.proofs.lemmas.Bool.{not-false, not_from_true, ltb-false, le-ltb, leb-false, lt-leb, eqb-true, eq-eqb}
+use Rattle.std.proofs.lemmas.Bool.Decides.{nat_tests}
 use Rattle.line.specs.Words.{at32}
 use Rattle.line.specs.declared.denial.Denial.{Denial}
 use Rattle.runfile.specs.declared.fault.Fault.{Fault}
@@ -83,9 +84,7 @@ pub record Stands (f : List ℕ) (at end : ℕ) : Type 0 where
   pub within : at + size_at f at ≤ end
 
 pub stands_none : (f : List ℕ) (at end : ℕ) → Stands f at end → request_fault f at end ≡ None
-stands_none f at end h =
-    both_none _ _ (test_none _ _ _ _ (lt-leb _ _ h.before))
-    (both_none _ _ (test_none _ _ _ _ (not_from_true _ h.letter)) (test_none _ _ _ _ (le-ltb _ _ h.within)))
+stands_none f at end h = let b = h.before in let l = h.letter in let w = h.within in grind (arith, nat_tests)
 
 pub none_stands : (f : List ℕ) (at end : ℕ) → request_fault f at end ≡ None → Stands f at end
 none_stands f at end h =

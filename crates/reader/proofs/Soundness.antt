@@ -23,10 +23,7 @@ cut f o n m e h =
     ∙ ap (λ (z : List ℕ). take m (drop (o + n) f) ++ z) (drop-drop m (o + n) f ∙ ap (λ (k : ℕ). drop k f) (sym h))))
 
 letter_from : (p : ℕ) → known_pile p ≡ true → PileLetter p
-letter_from p h =
-    ⊎_elim (λ (a : eqb p 65 ≡ true). inl (eqb-true _ _ a))
-    (λ (b : (eqb p 66 || eqb p 67) ≡ true). inr (⊎_elim (λ (a : eqb p 66 ≡ true). inl (eqb-true _ _ a)) (λ (a : eqb p 67 ≡ true). inr (eqb-true _ _ a)) (or_cases _ _ b)))
-    (or_cases _ _ h)
+letter_from p h = grind arith
 
 mark_from : (f : List ℕ) (b : ℕ) → length f ≡ b + 4 → marked_at f b ≡ true → drop b f ≡ mark
 mark_from f b l h =
