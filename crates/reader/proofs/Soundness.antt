@@ -1,9 +1,9 @@
 -- A file that is read without a fault says what is read. It is cut at the settings, at the requests and at the trailer; each
 -- part holds what was read at its place, and the requests' part is spelled out by the requests.
-use Rattle.std.proofs.Common.{◌≡◌, ℕ, ◌+◌, ◌-◌, ◌≤◌, true, ◌||◌, eqb, List, ◌++◌, length, get_or, take, drop, sym, refl, ap, ◌∙◌, inl, inr, ⊎_elim, arith, length-drop}
+use Rattle.std.proofs.Common.{◌≡◌, ℕ, ◌+◌, ◌-◌, ◌≤◌, true, eqb, List, ◌++◌, length, get_or, take, drop, sym, refl, ap, ◌∙◌, arith, length-drop}
 use Rattle.std.proofs.lemmas.List.{drop-drop, get_or-drop, take-append-drop, length-take-le}
 use Rattle.std.proofs.lemmas.Slice.Eq.{text_from_reads}
-use Rattle.std.proofs.lemmas.Bool.{or_cases, and_parts, eqb-true}
+use Rattle.std.proofs.lemmas.Bool.{and_parts, eqb-true}
 use Rattle.line.specs.Words.{at32}
 use Rattle.runfile.specs.Asks.{asks}
 use Rattle.runfile.specs.Layout.{settings_from, known_pile, mark, marked_at}
