@@ -1,6 +1,6 @@
 -- A file that says something is read without a fault, and what is read is what it says. The parts of the file fix its length,
 -- hence the places at which the reader looks; what stands there is what stands in the parts.
-use Rattle.std.proofs.Common.{◌≡◌, ℕ, ◌+◌, ◌-◌, ◌≤◌, true, ◌⊎◌, List, [], ◌∷◌, ◌++◌, length, get_or, drop, Some, None, Ok, Option, Result, sym, refl, ap, ◌∙◌, subst, ⊎_elim, append_assoc, arith, length-append}
+use Rattle.std.proofs.Common.{◌≡◌, ℕ, ◌+◌, ◌-◌, ◌≤◌, true, List, [], ◌∷◌, ◌++◌, length, get_or, drop, Some, None, Ok, Option, Result, sym, refl, ap, ◌∙◌, subst, append_assoc, arith, length-append}
 use Rattle.std.proofs.lemmas.List.{drop_at, drop-drop}
 use Rattle.line.specs.Words.{at32}
 use Rattle.runfile.specs.declared.fault.Fault.{Fault}
@@ -18,9 +18,7 @@ use Rattle.reader.proofs.Soundness.{passed_says, passed_number}
 use Rattle.reader.proofs.Spelling.{spelled_found}
 
 letter_known : (p : ℕ) → PileLetter p → known_pile p ≡ true
-letter_known p h =
-    ⊎_elim (λ (e : p ≡ 65). ap known_pile e)
-    (λ (b : (p ≡ 66) ⊎ (p ≡ 67)). ⊎_elim (λ (e : p ≡ 66). ap known_pile e) (λ (e : p ≡ 67). ap known_pile e) b) h
+letter_known p h = grind arith
 
 -- what the reader finds in a file that says s and qs, after a lead of this length
 record Finds (f : List ℕ) (s : Settings) (qs : List Ask) (lead slots : ℕ) : Type 0 where

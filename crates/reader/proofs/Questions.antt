@@ -1,13 +1,11 @@
 -- The reader's questions are all answered yes just where it finds no fault. A chain of faults is empty just where each of
 -- its links is, and a link is empty just where its test is false.
-use Rattle.std.proofs.Common.{◌≡◌, ℕ, ◌+◌, ◌-◌, ◌<◌, ◌≤◌, Bool, true, false, ◌||◌, eqb, List, length, get_or, Some, None, Ok, Err, Option, Result, refl, ap, ◌∙◌, subst, arith}
-use Rattle.std.proofs.lemmas.Bool.{not-false, not_from_true, ltb-false, le-ltb, leb-false, lt-leb, eqb-true, eq-eqb}
+use Rattle.std.proofs.Common.{◌≡◌, ℕ, ◌+◌, ◌-◌, ◌<◌, ◌≤◌, true, ◌||◌, eqb, List, length, get_or, Some, None, Ok, Err, Option, Result, refl, ap, ◌∙◌, subst, arith}
+use Rattle.std.proofs.lemmas.Bool.Decides.{nat_tests}
 use Rattle.line.specs.Words.{at32}
-use Rattle.line.specs.declared.denial.Denial.{Denial}
 use Rattle.runfile.specs.declared.fault.Fault.{Fault}
-use Rattle.runfile.specs.declared.fault.Stage.{Stage}
 use Rattle.reader.specs.declared.reader.Run.{Run}
-use Rattle.runfile.specs.Faults.{faulted, or_then, or_fault}
+use Rattle.runfile.specs.Faults.{or_then, or_fault}
 use Rattle.runfile.specs.Layout.{known_pile, marked_at}
 use Rattle.reader.specs.Reading.{Reading, reading, run_in, run_of, run_fault, settings_at, request_fault, requests_fault, requests_from, requests_of, size_at}
 
@@ -20,13 +18,6 @@ both_none o p ho hp = ap (λ (x : Option Fault). or_then x p) ho ∙ hp
 pub none_both : (o p : Option Fault) → or_then o p ≡ None → (o ≡ None) × (p ≡ None)
 none_both (Some x) p h = cc
 none_both None p h = (refl, h)
-
-pub test_none : (b : Bool) (d : Denial) (p : ℕ) (s : Stage) → b ≡ false → faulted b d p s ≡ None
-test_none b d p s h = ap (λ (x : Bool). faulted x d p s) h
-
-pub none_test : (b : Bool) (d : Denial) (p : ℕ) (s : Stage) → faulted b d p s ≡ None → b ≡ false
-none_test true d p s h = cc
-none_test false d p s h = refl
 
 -- the fault of a first question is that of both
 pub first_fault : {V W : Type 0} (o p : Option Fault) (v : V) (w : W) (e : Fault)
@@ -46,34 +37,19 @@ pub record Passed (f : List ℕ) (slots : ℕ) : Type 0 where
   pub walked : requests_fault f (settings_at f + 20) (length f - 16) (at32 f (length f - 8)) ≡ None
 
 pub passed_none : (f : List ℕ) (slots : ℕ) → Passed f slots → run_fault f slots ≡ None
-passed_none f slots h =
-    both_none _ _
-    (both_none _ _
-    (both_none _ _ (test_none _ _ _ _ (le-ltb _ _ h.long))
-    (both_none _ _ (test_none _ _ _ _ (le-ltb _ _ h.short))
-    (both_none _ _ (test_none _ _ _ _ (not_from_true _ h.marked))
-    (both_none _ _ (test_none _ _ _ _ (not_from_true _ (eq-eqb _ _ h.linked))) (test_none _ _ _ _ (le-ltb _ _ h.back))))))
-    (test_none _ _ _ _ (not_from_true _ h.known)))
-    (both_none _ _ (test_none _ _ _ _ (le-ltb _ _ h.room)) h.walked)
+passed_none f slots h = grind (arith, nat_tests)
 
 pub none_passed : (f : List ℕ) (slots : ℕ) → run_fault f slots ≡ None → Passed f slots
 none_passed f slots h =
-    let a = none_both _ _ h in
-    let s = none_both _ _ a.0 in
-    let t = none_both _ _ s.0 in
-    let u = none_both _ _ t.1 in
-    let v = none_both _ _ u.1 in
-    let w = none_both _ _ v.1 in
-    let r = none_both _ _ a.1 in
     record {
-      long = ltb-false _ _ (none_test _ _ _ _ t.0);
-      short = ltb-false _ _ (none_test _ _ _ _ u.0);
-      marked = not-false _ (none_test _ _ _ _ v.0);
-      linked = eqb-true _ _ (not-false _ (none_test _ _ _ _ w.0));
-      back = ltb-false _ _ (none_test _ _ _ _ w.1);
-      known = not-false _ (none_test _ _ _ _ s.1);
-      room = ltb-false _ _ (none_test _ _ _ _ r.0);
-      walked = r.1;
+      long = grind (arith, nat_tests);
+      short = grind (arith, nat_tests);
+      marked = grind (arith, nat_tests);
+      linked = grind (arith, nat_tests);
+      back = grind (arith, nat_tests);
+      known = grind (arith, nat_tests);
+      room = grind (arith, nat_tests);
+      walked = grind (arith, nat_tests);
     }
 
 -- the same of one request
@@ -83,19 +59,10 @@ pub record Stands (f : List ℕ) (at end : ℕ) : Type 0 where
   pub within : at + size_at f at ≤ end
 
 pub stands_none : (f : List ℕ) (at end : ℕ) → Stands f at end → request_fault f at end ≡ None
-stands_none f at end h =
-    both_none _ _ (test_none _ _ _ _ (lt-leb _ _ h.before))
-    (both_none _ _ (test_none _ _ _ _ (not_from_true _ h.letter)) (test_none _ _ _ _ (le-ltb _ _ h.within)))
+stands_none f at end h = grind (arith, nat_tests)
 
 pub none_stands : (f : List ℕ) (at end : ℕ) → request_fault f at end ≡ None → Stands f at end
-none_stands f at end h =
-    let a = none_both _ _ h in
-    let b = none_both _ _ a.1 in
-    record {
-      before = leb-false _ _ (none_test _ _ _ _ a.0);
-      letter = not-false _ (none_test _ _ _ _ b.0);
-      within = ltb-false _ _ (none_test _ _ _ _ b.1);
-    }
+none_stands f at end h = record { before = grind (arith, nat_tests); letter = grind (arith, nat_tests); within = grind (arith, nat_tests) }
 
 pub same_ok : (a b : Reading) → ◌≡◌ {A = Result Reading Fault} (Ok a) (Ok b) → a ≡ b
 same_ok a b h = cc
@@ -110,18 +77,14 @@ pub record Ready (f : List ℕ) (slots : ℕ) (run : Run) : Type 0 where
   pub read : reading f slots ≡ Ok (record { run = run; requests = requests_from f (run.place + 20) run.number })
 
 ready_of : (f : List ℕ) (slots : ℕ) → Passed f slots → Ready f slots (run_of f)
-ready_of f slots h =
-    let lo = h.long in
-    let li = h.linked in
-    let ba = h.back in
-    record {
-      is = refl;
-      inside = omega arith;
-      short = h.short;
-      room = h.room;
-      checked = h.walked;
-      read = ap (λ (o : Option Fault). or_fault o (record { run = run_of f; requests = requests_of f })) (passed_none f slots h);
-    }
+ready_of f slots h = record {
+  is = refl;
+  inside = omega (arith, h.long, h.linked, h.back);
+  short = h.short;
+  room = h.room;
+  checked = h.walked;
+  read = ap (λ (o : Option Fault). or_fault o (record { run = run_of f; requests = requests_of f })) (passed_none f slots h);
+}
 
 ready_by : (f : List ℕ) (slots : ℕ) (run : Run) (o : Option Fault) → run_fault f slots ≡ o
     → ◌≡◌ {A = Result Run Fault} (Ok run) (run_in (or_fault o (record { run = run_of f; requests = requests_of f }))) → Ready f slots run

@@ -1,9 +1,9 @@
 -- A file that is read without a fault says what is read. It is cut at the settings, at the requests and at the trailer; each
 -- part holds what was read at its place, and the requests' part is spelled out by the requests.
-use Rattle.std.proofs.Common.{◌≡◌, ℕ, ◌+◌, ◌-◌, ◌≤◌, true, ◌||◌, eqb, List, ◌++◌, length, get_or, take, drop, sym, refl, ap, ◌∙◌, inl, inr, ⊎_elim, arith, length-drop}
+use Rattle.std.proofs.Common.{◌≡◌, ℕ, ◌+◌, ◌-◌, ◌≤◌, true, eqb, List, ◌++◌, length, get_or, take, drop, sym, refl, ap, ◌∙◌, arith, length-drop}
 use Rattle.std.proofs.lemmas.List.{drop-drop, get_or-drop, take-append-drop, length-take-le}
 use Rattle.std.proofs.lemmas.Slice.Eq.{text_from_reads}
-use Rattle.std.proofs.lemmas.Bool.{or_cases, and_parts, eqb-true}
+use Rattle.std.proofs.lemmas.Bool.{and_parts, eqb-true}
 use Rattle.line.specs.Words.{at32}
 use Rattle.runfile.specs.Asks.{asks}
 use Rattle.runfile.specs.Layout.{settings_from, known_pile, mark, marked_at}
@@ -23,10 +23,7 @@ cut f o n m e h =
     ∙ ap (λ (z : List ℕ). take m (drop (o + n) f) ++ z) (drop-drop m (o + n) f ∙ ap (λ (k : ℕ). drop k f) (sym h))))
 
 letter_from : (p : ℕ) → known_pile p ≡ true → PileLetter p
-letter_from p h =
-    ⊎_elim (λ (a : eqb p 65 ≡ true). inl (eqb-true _ _ a))
-    (λ (b : (eqb p 66 || eqb p 67) ≡ true). inr (⊎_elim (λ (a : eqb p 66 ≡ true). inl (eqb-true _ _ a)) (λ (a : eqb p 67 ≡ true). inr (eqb-true _ _ a)) (or_cases _ _ b)))
-    (or_cases _ _ h)
+letter_from p h = grind arith
 
 mark_from : (f : List ℕ) (b : ℕ) → length f ≡ b + 4 → marked_at f b ≡ true → drop b f ≡ mark
 mark_from f b l h =

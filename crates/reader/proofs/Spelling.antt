@@ -1,15 +1,16 @@
 -- The bytes of the requests. Requests that are spelled out are found, as they are, without a fault; and requests that are
 -- found without a fault are spelled out by the bytes up to the trailer. Each by induction over the requests: the bytes of one
 -- are taken off the front of what is left of the file.
-use Rattle.std.proofs.Common.{◌≡◌, ℕ, zero, suc, ◌+◌, ◌-◌, ◌*◌, ◌≤◌, Bool, true, false, cond, not, ◌||◌, eqb, List, [], ◌∷◌, ◌++◌, length, get_or, take, drop, None, sym, refl, ap, ◌∙◌, subst, ⊎_elim, append_assoc, add-zero, arith, length-append, length-drop}
+use Rattle.std.proofs.Common.{◌≡◌, ℕ, zero, suc, ◌+◌, ◌-◌, ◌*◌, ◌≤◌, Bool, true, false, cond, ◌||◌, eqb, List, [], ◌∷◌, ◌++◌, length, get_or, take, drop, None, sym, refl, ap, ◌∙◌, subst, ⊎_elim, append_assoc, add-zero, arith, length-append, length-drop}
 use Rattle.std.proofs.lemmas.List.{get_or-drop, drop-drop, drop_at, take_at, drop_more, drop-take, take-take, take-append-drop, length-take-le}
-use Rattle.std.proofs.lemmas.Bool.{cases_Bool, not-false, eqb-true, eq-eqb}
+use Rattle.std.proofs.lemmas.Bool.{cases_Bool, eqb-true}
+use Rattle.std.proofs.lemmas.Bool.Decides.{nat_tests}
 use Rattle.line.specs.Words.{at16}
 use Rattle.runfile.specs.Asks.{Ask, read, write, Placed, asks}
 use Rattle.reader.specs.Laws.{ask_size, placed}
 use Rattle.reader.specs.Reading.{ask_at, size_at, request_fault, requests_fault, requests_from}
 use Rattle.runfile.specs.RunFile.{Asked, Spelled}
-use Rattle.reader.proofs.Questions.{Stands, stands_none, none_stands, both_none, none_both, test_none, none_test}
+use Rattle.reader.proofs.Questions.{Stands, stands_none, none_stands, both_none, none_both}
 
 -- a byte, as it stands at the front of what is left
 front_byte : (f w : List ℕ) (at n i : ℕ) → drop at f ≡ w → n ≡ at + i → get_or f n 0 ≡ get_or w i 0
@@ -65,7 +66,7 @@ found (write line load) f front rest at end a h le =
 pub spelled_found : (qs : List Ask) (f bs rest : List ℕ) (at end : ℕ) → Spelled qs bs → drop at f ≡ bs ++ rest → end ≡ at + length bs
     → (requests_fault f at end (length qs) ≡ None) × (requests_from f at (length qs) ≡ placed at qs)
 spelled_found [] f bs rest at end sp h e =
-    (test_none _ _ _ _ (ap not (eq-eqb at end (omega (arith, ap length sp)))), refl)
+    (let e' : at ≡ end = omega (arith, ap length sp) in grind (arith, nat_tests), refl)
 spelled_found (q ∷ qs) f bs rest at end sp h e =
     let front : List ℕ = sp.0 in
     let tail : List ℕ = sp.1.0 in
@@ -124,7 +125,7 @@ stands_asked f at end le h =
 pub found_spelled : (k : ℕ) (f : List ℕ) (at end : ℕ) → end ≤ length f → at ≤ end → requests_fault f at end k ≡ None
     → Spelled (asks (requests_from f at k)) (take (end - at) (drop at f)) × (length (asks (requests_from f at k)) ≡ k)
 found_spelled zero f at end le lt h =
-    let e : at ≡ end = eqb-true at end (not-false _ (none_test _ _ _ _ h)) in
+    let e : at ≡ end = grind (arith, nat_tests) in
     let z : end - at ≡ 0 = omega arith in
     (ap (λ (n : ℕ). take n (drop at f)) z, refl)
 found_spelled (suc k) f at end le lt h =
