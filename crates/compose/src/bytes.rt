@@ -60,9 +60,10 @@ pub(crate) fn put_request(file: &mut Vec<u8>, request: Request)
             put(file, &line.to_le_bytes());
         }
         Request::Write { line, load } => {
+            let bytes: [u8; 16] = load.into();
             put(file, b"w");
             put(file, &line.to_le_bytes());
-            put(file, &<[u8; 16]>::from(load));
+            put(file, &bytes);
         }
     }
 }

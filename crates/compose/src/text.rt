@@ -139,7 +139,9 @@ impl<'a> Line<'a> {
     pub(crate) fn locate<T>(self, answer: Result<T, Wrong>) -> Result<T, Fault>
         ensures answer { result ≡ at_line self.entry.number answer }
     {
-        answer.map_err(|wrong| self.fault(wrong))
+        // not `self.fault`, of whose answer in a closure the proof is not found
+        let line = self.number;
+        answer.map_err(|wrong| Fault { line, wrong })
     }
 }
 
