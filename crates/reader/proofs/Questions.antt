@@ -69,20 +69,12 @@ same_ok a b h = cc
 
 -- what an answer `Ok` tells of a file
 pub record Ready (f : List ℕ) (slots : ℕ) (run : Run) : Type 0 where
-  pub is : run ≡ run_of f
-  pub inside : run.place + 20 + 16 ≤ length f
-  pub short : length f ≤ 65536
   pub room : run.number ≤ slots
-  pub checked : requests_fault f (run.place + 20) (length f - 16) run.number ≡ None
   pub read : reading f slots ≡ Ok (record { run = run; requests = requests_from f (run.place + 20) run.number })
 
 ready_of : (f : List ℕ) (slots : ℕ) → Passed f slots → Ready f slots (run_of f)
 ready_of f slots h = record {
-  is = refl;
-  inside = omega (arith, h.long, h.linked, h.back);
-  short = h.short;
   room = h.room;
-  checked = h.walked;
   read = ap (λ (o : Option Fault). or_fault o (record { run = run_of f; requests = requests_of f })) (passed_none f slots h);
 }
 

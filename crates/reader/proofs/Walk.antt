@@ -1,18 +1,13 @@
 -- A walk over the requests. While no request has a fault, the faults of those that are left are those of all. Each turn is one
 -- unfolding of what is left.
-use Rattle.std.proofs.Common.{◌≡◌, ℕ, zero, suc, ◌+◌, ◌-◌, ◌<◌, ◌≤◌, List, [], ◌∷◌, ◌++◌, map, length, get_or, take, drop, set, Some, None, Option, sym, refl, ap, ◌∙◌, arith}
-use native.Mathlib.Nat.{sub-zero}
+use Rattle.std.proofs.Common.{◌≡◌, ℕ, zero, suc, ◌+◌, ◌<◌, List, [], ◌∷◌, ◌++◌, map, length, get_or, take, drop, set, Some, None, Option, sym, refl, ap, ◌∙◌, arith}
 use Rattle.std.proofs.lemmas.List.{append_assoc, drop_more, length-map, length-take-le, map_more, set_at}
 use Rattle.runfile.specs.declared.fault.Fault.{Fault}
 use Rattle.runfile.specs.declared.slot.Slot.{Slot}
 use Rattle.runfile.specs.Asks.{Placed}
 use Rattle.runfile.specs.Faults.{or_then}
-use Rattle.reader.specs.Reading.{request_fault, requests_fault, requests_from, size_at, walk_end}
+use Rattle.reader.specs.Reading.{request_fault, requests_fault, requests_from, size_at}
 use Rattle.runfile.specs.Slots.{slot_at}
-
--- where the requests of a run file end
-pub end_is : (f : List ℕ) → 16 ≤ length f → length f ≤ 65536 → walk_end f ≡ length f - 16
-end_is f lo hi = grind arith
 
 -- one request without a fault; g and e are what the walker holds of the file f and of the end
 pub walk_more : (f g : List ℕ) (at to e end k m : ℕ) → k ≡ suc m → g ≡ f → e ≡ end → request_fault g at e ≡ None → to ≡ at + size_at g at
@@ -30,10 +25,6 @@ pub walk_broke : (f g : List ℕ) (at e end k m : ℕ) (x : Fault) → k ≡ suc
 walk_broke f g at e end k m x ek eg ee h =
     let h' : request_fault f at end ≡ Some x = simp (eg, ee) at h in
     ap (λ (n : ℕ). requests_fault f at end n) ek ∙ ap (λ (o : Option Fault). or_then o (requests_fault f (at + size_at f at) end m)) h'
-
--- as a walk begins
-pub walk_none : (f : List ℕ) (from at end k : ℕ) → at ≡ from → requests_fault f at end (k - 0) ≡ requests_fault f from end k
-walk_none f from at end k e = ap (λ (a : ℕ). requests_fault f a end (k - 0)) e ∙ ap (λ (n : ℕ). requests_fault f from end n) (sub-zero k)
 
 pub length_requests_from : (f : List ℕ) (at k : ℕ) → length (requests_from f at k) ≡ k
 length_requests_from f at zero = refl
