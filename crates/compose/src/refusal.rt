@@ -8,7 +8,7 @@ use std::alloc::AllocError;
 use std::error::Error;
 
 /// The settings, in the order of their lines.
-#[derive(Clone, Copy, Debug, PartialEq, Eq)]
+#[derive(Clone, Copy, Debug)]
 pub enum Setting {
     Pile,
     Regions,
@@ -37,7 +37,7 @@ impl Setting {
 }
 
 /// What is wrong with a line.
-#[derive(Clone, Copy, Debug, PartialEq, Eq)]
+#[derive(Clone, Copy, Debug)]
 pub enum Wrong {
     /// The line of this setting should stand here.
     Expected(Setting),
@@ -58,7 +58,7 @@ pub enum Wrong {
 }
 
 /// Something that is wrong with a text.
-#[derive(Clone, Copy, Debug, PartialEq, Eq)]
+#[derive(Clone, Copy, Debug)]
 pub struct Fault {
     /// The number of the line; the first line has the number 1.
     pub line: usize,
@@ -67,7 +67,7 @@ pub struct Fault {
 }
 
 /// Why no run file is made.
-#[derive(Clone, Copy, Debug, PartialEq, Eq)]
+#[derive(Clone, Copy, Debug)]
 pub enum Refusal {
     /// There is no memory for the longest run file.
     NoMemory,

@@ -10,7 +10,8 @@ use crate::refusal::{Fault, Setting, Wrong};
 use crate::text::{Line, Lines, Words};
 use runfile::settings::Settings;
 
-// The next line, which is to be the line of this setting, after its name.
+// The next line, which is to be the line of this setting, after its name. Each function that takes a line says `Taken`, one word: what is
+// left of the lines is part of what it answers.
 fn setting_line<'a>(lines: &mut Lines<'a>, setting: Setting) -> Result<Line<'a>, Fault>
     ensures answer { opened result ≡ named setting (last_in lines.old) (lines_in lines.old) }
     ensures after { Taken lines.old lines.new }

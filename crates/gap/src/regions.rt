@@ -187,6 +187,7 @@ impl Regions {
         split(self.size, line)
     }
 
+    // A region by its number, as `split` tells it: a handle that is known to be below the count would borrow the rows that a write moves.
     fn region(&self, region: u16) -> Region
         requires { region < self.now.count }
         ensures size { result.size ≡ self.now.size }

@@ -7,7 +7,7 @@ use Rattle.line.specs.declared.denial.Denial.{Denial}
 use Rattle.line.specs.declared.load.Load.{Load}
 use Rattle.medium.specs.Array.{Array, denied_by, unless_denied, accepted, next, after, fetched, reply, replies, read_reply, write_reply}
 use Rattle.medium.specs.Chain.{WriteStep, write_answer, InTurn}
-use Rattle.medium.specs.Law.{reply_of}
+use Rattle.medium.specs.Law.{reply_of, left}
 use Rattle.medium.specs.Meaning.{means}
 use Rattle.medium.specs.declared.call.Call.{Call}
 use Rattle.medium.specs.declared.call.Call.TheVariants.{Read, Write}
@@ -129,11 +129,11 @@ module _ {M : Type 0} (g : Ghosts M Load) (mem : M → Memory) (life : M → ℕ
       )
 
 -- ---- the totals, as they are asked for
-pub totals_are : (a : Array Load) (n k t l u w : ℕ) → k ≡ n → t ≡ a.taken → l ≡ a.life → u ≡ a.taken → w ≡ a.taken % 2 ^ 64 → t < 2 ^ 64
-    → ◌≡◌ {A = Totals} (record { requests = k; taken = t; left = l - u; copies = 0; wear = w }) (byte_totals n a)
-totals_are a n k t l u w en et el eu ew lt =
+pub totals_are : (a : Array Load) (n k t d w : ℕ) → k ≡ n → t ≡ a.taken → d ≡ left a → w ≡ a.taken % 2 ^ 64 → t < 2 ^ 64
+    → ◌≡◌ {A = Totals} (record { requests = k; taken = t; left = d; copies = 0; wear = w }) (byte_totals n a)
+totals_are a n k t d w en et ed ew lt =
     let e : w ≡ a.taken = omega arith in
-    let d : l - u ≡ a.life - a.taken = omega arith in
+    let f : d ≡ a.life - a.taken = ed in
     cc
 
 pub same_memory : (bs bs' cs cs' : List ℕ) → bs ≡ bs' → cs ≡ cs' → ◌≡◌ {A = Memory} (record { bytes = bs; counts = cs }) (record { bytes = bs'; counts = cs' })

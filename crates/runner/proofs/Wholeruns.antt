@@ -1,6 +1,6 @@
 -- A whole run. What is read and surveyed fixes the parts of slots and memory that are lent; what comes back from them is put before
 -- what was not lent. Each lemma takes the terms as the code has them, and an equation for each.
-use Rattle.std.proofs.Common.{◌≡◌, ℕ, ◌-◌, ◌*◌, ◌≤◌, List, [], ◌∷◌, ◌++◌, map, length, take, drop, replicate, None, Ok, Err, Option, Result, sym, refl, ap, ◌∙◌, subst, arith}
+use Rattle.std.proofs.Common.{◌≡◌, ℕ, ◌-◌, ◌*◌, ◌≤◌, List, ◌++◌, map, length, take, drop, replicate, None, Ok, Err, Option, Result, sym, ap, ◌∙◌, subst, arith}
 use native.Mathlib.Nat.{sub-zero}
 use Rattle.std.proofs.lemmas.List.{length-take-le, take_at, drop_at, length-map}
 use Rattle.line.specs.declared.load.Load.{Load}

@@ -1,5 +1,5 @@
 -- A whole run on a byte medium: which fault comes, or what is answered and what is left. Assumes nothing.
-use Rattle.std.specs.Prelude.{◌≡◌, ℕ, ◌*◌, min, cond, List, [], ◌∷◌, ◌++◌, map, take, drop, replicate, Some, None, Ok, Err, Option, Result, nat_le}
+use Rattle.std.specs.Prelude.{◌≡◌, ℕ, ◌*◌, min, cond, List, ◌++◌, map, take, drop, replicate, Some, None, Ok, Err, Option, Result, nat_le}
 use Rattle.line.specs.declared.denial.Denial.{Denial}
 use Rattle.line.specs.declared.load.Load.{Load}
 use Rattle.medium.specs.Array.{Array, after, replies}

@@ -32,7 +32,7 @@ fn call_of(request: Request<'_>) -> Call<Load>
     }
 }
 
-// The answer of a medium to one request.
+// The answer of a medium to one request. That its memory is still lent, one word, is part of what each function that hands it on answers.
 fn answer<M: Medium<Line = Load>>(medium: &mut M, request: Request<'_>) -> Answer<Load>
     requires sixteen { Sixteen (Ok request) }
     ensures memory { M.Medium.memory medium.new ≡ M.Medium.memory medium.old }

@@ -37,5 +37,5 @@ returns c =
       slots = played.1.0 ∙ ap (marked c.args.slots.now) ran.0;
       memory = same_memory _ _ _ _ (search rules) (search rules) ∙ ran.1;
       array = ran.3;
-      totals = totals_are (array_in (held c.carry_out.new.medium) c.carry_out.new.medium.life) (length c.args.slots.now) _ _ _ _ _ c.carry_out.auto.slots c.taken.ensures.answer c.life.ensures.answer c.taken-2.ensures.answer c.wear.ensures.answer (omega arith) ∙ ap (byte_totals (length c.args.slots.now)) ran.2;
+      totals = totals_are (array_in (held c.carry_out.new.medium) c.carry_out.new.medium.life) (length c.args.slots.now) _ _ _ _ c.carry_out.auto.slots c.taken.ensures.answer c.left.ensures.left c.wear.ensures.answer (omega arith) ∙ ap (byte_totals (length c.args.slots.now)) ran.2;
     }

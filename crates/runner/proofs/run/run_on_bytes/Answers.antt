@@ -1,4 +1,4 @@
-use Rattle.std.proofs.Common.{◌≡◌, ℕ, ◌+◌, ◌-◌, ◌*◌, ◌≤◌, List, ◌++◌, map, length, take, drop, is_err, Ok, Err, Result, sym, refl, ap, ◌∙◌, subst, arith}
+use Rattle.std.proofs.Common.{◌≡◌, ℕ, ◌-◌, ◌*◌, ◌≤◌, List, ◌++◌, map, length, take, drop, is_err, Ok, Err, Result, sym, refl, ap, ◌∙◌, subst, arith}
 use native.Mathlib.Nat.{sub-zero}
 use Rattle.std.proofs.lemmas.Result.{err_from_is_err_and, IfOk-from_err}
 use Rattle.runfile.specs.declared.fault.Fault.{Fault}
@@ -7,7 +7,6 @@ use Rattle.reader.specs.Checked.{requests_left}
 use Rattle.reader.specs.Reading.{Reading, reading, slots_after}
 use Rattle.runfile.specs.Slots.{slot_at}
 use Rattle.reader.proofs.Checked.{asking}
-use Rattle.runner.specs.Playing.{calls_of}
 use Rattle.runner.specs.Runs.{totals_of, slots_left, bytes_left, counts_left, ArrayHeld}
 use Rattle.runner.specs.declared.totals.Totals.{Totals}
 use Rattle.runner.proofs.Wholeruns.{surveyed_ok, surveyed_broke, lent_fits, lent_slots, kept_slots, lent_number, whole_totals, whole_slots, whole_bytes, whole_counts, whole_array, first_is}
