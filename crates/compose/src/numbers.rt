@@ -6,7 +6,7 @@ ghost use Rattle.compose.specs.Numerals.{number, integer};
 use crate::fields::Field;
 use crate::refusal::Wrong;
 
-// One impl for each width: one for all of them would take in `i32` and the letter too.
+// One impl for each width: one for all of them would take in `i32` too.
 impl Field for u8 {
     ghost spelled = { number 255 };
 

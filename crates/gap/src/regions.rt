@@ -17,7 +17,7 @@ pub(crate) struct Move {
 /// Regions of lines, each with one place that holds no line: its gap. After each `interval` writes to a region it moves.
 #[derive(Drop)]
 pub(crate) struct Regions {
-    // a plain table, as a rule of the project has it: no heap, and one row is lent to be moved; the first `count` are in use
+    // a plain table of rows, one of which is lent to be moved: a rule of the project; the first `count` are in use
     rows: [Row; 16],
     count: u16,
     size: u16,
@@ -96,8 +96,8 @@ fn split(size: u16, number: u16) -> (u16, u16)
     (number / size, number % size)
 }
 
-// Moves the gap of a region of `size` lines to the place that the move reads. By its row alone, since one row is lent, as a rule of the
-// project has it.
+// Moves the gap of a region of `size` lines to the place that the move reads. Of its row and no `Region`: a rule of the project has one row
+// lent by `&mut`.
 #[tactic(auto, unfolding(startgap::specs::Rows::row_moved, startgap::specs::Rows::row_from))]
 fn advance(row: &mut Row, size: u16)
     requires start { row.old.start < size }
@@ -187,7 +187,7 @@ impl Regions {
         split(self.size, line)
     }
 
-    // A region by its number, as `split` tells it: a handle that is known to be below the count would borrow the rows that a write moves.
+    // A region by its number, as `split` tells it: a struct with the fact that it is below the count would borrow the rows that a write changes.
     fn region(&self, region: u16) -> Region
         requires { region < self.now.count }
         ensures size { result.size ≡ self.now.size }

@@ -54,7 +54,7 @@ pub trait Medium {
         ensures answer { result ≡ fetched (lines self.now) line }
         ensures below { Served (pile self.now) (array_of lines taken life self.now) (wear self.now) (Read line ∷ []) (pile self.now) (wear self.now) };
 
-    // Each implementation asks the two questions itself: they compare numbers of its own, and a function of the four would say no more.
+    // Each implementation asks the two questions itself: a generic function that asks them of `self` gets no proof within its own impl.
     /// Replaces the line of that number, and answers the toll: what the wear grew by, modulo 2^64.
     /// A number not below the count is denied with 1, and then a used life with 2.
     fn write(&mut self, line: u16, value: Self::Line) -> Result<u64, Denial>

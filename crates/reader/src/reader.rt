@@ -134,8 +134,7 @@ fn fill_slots(mut requests: CheckedRequests<'_>, slots: &mut [Slot])
     requires room { length (requests_left requests) ≤ length slots.old }
     ensures slots { slots.new ≡ map slot_at (requests_left requests.entry) ++ drop (length (requests_left requests.entry)) slots.old }
 {
-    // No `zip`: of slots that an adapter of `iter_mut` lends, only their number is known afterwards.
-    // no `zip`: of slots written through one a proof knows nothing afterwards
+    // No `zip`: of slots written through one a proof knows nothing afterwards.
     for slot in slots.iter_mut() {
         let Some(request) = requests.next() else {
             return;

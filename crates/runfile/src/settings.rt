@@ -3,7 +3,7 @@
 /// The settings of a run: which pile is built, and with what numbers.
 #[derive(Clone, Copy)]
 pub struct Settings {
-    // A letter and no enum, as a rule of the project has it: a program chooses the pile by its char literals. `compose` writes any letter.
+    // A letter and no enum: a rule of the project has the pile chosen by its char literals, and `compose` writes any letter.
     /// The letter of the pile: A, B or C.
     pub pile: char,
     /// How many regions the gap layer has.

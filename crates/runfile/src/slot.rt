@@ -62,7 +62,7 @@ impl Slot {
         }
     }
 
-    // Zeros and no `Option`, here and below, as a rule of the project has it: what has no answer is worth 0 in all three.
+    // Zeros and no `Option`, here and below: a rule of the project has what has no answer worth 0 in all three.
     /// The number of the denial, and 0 where there is none.
     pub fn number(self) -> u8
         ensures number { result ≡ (values self.answer).number }

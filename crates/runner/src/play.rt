@@ -16,7 +16,7 @@ use reader::requests::CheckedRequests;
 use runfile::request::Request;
 use runfile::slot::Slot;
 
-// What a request asks of a medium of loads.
+// What a request asks of a medium of loads. `Sixteen` is asked, since a rule of the project has a request's bytes as a slice, and no array.
 fn call_of(request: Request<'_>) -> Call<Load>
     requires sixteen { Sixteen (Ok request) }
     ensures call { result ≡ call_of (placed_of request.entry).ask }
@@ -51,7 +51,7 @@ pub(crate) fn carry_out<M: Medium<Line = Load>>(
     ensures memory { M.Medium.memory medium.new ≡ M.Medium.memory medium.old }
     ensures played { Played M.Medium medium.old (calls_of (requests_left requests.entry)) slots.old slots.new medium.new }
 {
-    // no `zip`: of slots written through one a proof knows nothing afterwards
+    // No `zip`: of slots written through one a proof knows nothing afterwards.
     for slot in slots.iter_mut() {
         let Some(request) = requests.next() else {
             unreachable();

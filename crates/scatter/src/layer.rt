@@ -32,7 +32,7 @@ pub fn survey(span: u16, count: u16, left: u32) -> Result<(), Denial>
 pub struct ScatterLayer<S, M> {
     shuffle: S,
     below: M,
-    // at least 1 in a layer that was fit to be made, and 0 in an unfit one: no `Option`, which each call would open to find no life
+    // at least 1 in a layer that was fit to be made, and 0 in an unfit one: no `Option`, since no life is what an unfit layer has
     life: u32,
     taken: u32,
     ghost within: { taken ≤ life },

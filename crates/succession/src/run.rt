@@ -26,8 +26,7 @@ pub fn carry_out<M: Medium>(
     ensures law { Law (M.Medium.pile pile.old) (means M.Medium pile.old) (M.Medium.wear pile.old) (take result calls.now) (take result answers.new) (M.Medium.pile pile.new) (means M.Medium pile.new) (M.Medium.wear pile.new) }
 {
     let n = calls.len().min(answers.len());
-    // By an index: of slots written through `answers.iter_mut().zip(calls)` a proof knows nothing afterwards, and an iterator that is
-    // stepped by hand beside the other is no plainer.
+    // By an index: of slots written through `answers.iter_mut().zip(calls)` a proof knows nothing afterwards.
     for i in 0..n {
         answers[i] = ask(pile, calls[i]);
     }
