@@ -17,7 +17,7 @@ fn show(rt: &HostRuntime, name: &str, file: &[u8]) -> anyhow::Result<()> {
     Ok(())
 }
 
-pub fn lengths(rt: &HostRuntime) -> anyhow::Result<()> {
+pub(crate) fn lengths(rt: &HostRuntime) -> anyhow::Result<()> {
     let heap = rt.alloc();
     for n in [0, 35, 36, 65536, 65537] {
         let zeros = vec![in heap; 0u8; n]?;
@@ -74,7 +74,7 @@ fn padded(rt: &HostRuntime, name: &str, length: usize) -> anyhow::Result<()> {
     show(rt, name, &file)
 }
 
-pub fn trailers(rt: &HostRuntime) -> anyhow::Result<()> {
+pub(crate) fn trailers(rt: &HostRuntime) -> anyhow::Result<()> {
     let heap = rt.alloc();
     show(rt, "good", &PLAIN.file(heap, 0)?)?;
     padded(rt, "good and the longest", 65536)?;
@@ -105,7 +105,7 @@ fn reach(rt: &HostRuntime) -> anyhow::Result<()> {
     Ok(())
 }
 
-pub fn settings(rt: &HostRuntime) -> anyhow::Result<()> {
+pub(crate) fn settings(rt: &HostRuntime) -> anyhow::Result<()> {
     let heap = rt.alloc();
     for letter in [b'@', b'A', b'B', b'C', b'D', b'a'] {
         show(rt, "letter", &Parts { letter, ..PLAIN }.file(heap, 0)?)?;
@@ -142,7 +142,7 @@ fn ask(rt: &HostRuntime, name: &str, requests: &[u8], number: u32) -> anyhow::Re
     )
 }
 
-pub fn requests(rt: &HostRuntime) -> anyhow::Result<()> {
+pub(crate) fn requests(rt: &HostRuntime) -> anyhow::Result<()> {
     ask(rt, "read at its end", b"r\x04\x00", 1)?;
     ask(rt, "read cut", b"r\x04", 1)?;
     ask(rt, "read and a byte more", b"r\x04\x00\x00", 1)?;

@@ -12,7 +12,7 @@ const LOAD: Load = Load {
     activity: Activity::DUMPING,
 };
 
-pub fn kinds(rt: &HostRuntime) -> anyhow::Result<()> {
+pub(crate) fn kinds(rt: &HostRuntime) -> anyhow::Result<()> {
     let mut buf = [9u8; 17];
     let short = number(&LOAD.write_to(&mut buf[0..15]));
     let long = number(&LOAD.write_to(&mut buf));

@@ -3,7 +3,7 @@
 use line::denial::Denial;
 
 /// The number of the denial, and 0 where the call was carried out, as the stored output has them.
-pub fn number<T: Drop>(answer: &Result<T, Denial>) -> u8 {
+pub(crate) fn number<T: Drop>(answer: &Result<T, Denial>) -> u8 {
     match answer {
         Ok(_) => 0,
         Err(denial) => denial.number(),

@@ -7,7 +7,7 @@ use media::cells::CellMedium;
 use media::{bytes, cells};
 use medium::medium::Medium;
 
-pub fn surveys(rt: &HostRuntime) -> anyhow::Result<()> {
+pub(crate) fn surveys(rt: &HostRuntime) -> anyhow::Result<()> {
     for (count, life) in [
         (0, 1),
         (1, 1),
@@ -55,7 +55,7 @@ fn exercise<M: Medium<Line = u64>>(
     Ok(())
 }
 
-pub fn writes(rt: &HostRuntime) -> anyhow::Result<()> {
+pub(crate) fn writes(rt: &HostRuntime) -> anyhow::Result<()> {
     let mut cells = [1u64, 2];
     exercise(rt, "cells", &mut CellMedium::new(&mut cells, 2))?;
     let mut bytes = [1u8; 16];
