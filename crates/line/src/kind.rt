@@ -51,7 +51,7 @@ pub(crate) fn put<const N: usize>(bytes: [u8; N], buf: &mut [u8]) -> Result<(), 
 }
 
 // The bytes of a value that stand in `buf`. A buffer of another length is denied with 5.
-pub(crate) fn taken<const N: usize>(buf: &[u8]) -> Result<[u8; N], Denial>
+pub(crate) fn bytes_in<const N: usize>(buf: &[u8]) -> Result<[u8; N], Denial>
     ensures answer { result ≡ (if nat_eq (length buf.now) N then Ok buf.now else Err WrongLength) }
 {
     <[u8; N]>::try_from(buf).map_err(|_| Denial::WrongLength)

@@ -5,7 +5,7 @@ ghost use Rattle.line.specs.Loads.{LoadFits, load_bytes, load_of, load_text};
 ghost use Rattle.std.proofs.Common.{rules};
 
 use crate::denial::Denial;
-use crate::kind::{LineKind, put, taken};
+use crate::kind::{LineKind, bytes_in, put};
 use std::fmt;
 
 /// What the ship was doing. Values past the four named ones have no name, and are kept as they are.
@@ -92,7 +92,7 @@ impl LineKind for Load {
     }
 
     fn read_from(buf: &[u8]) -> Result<Load, Denial> {
-        let bytes: [u8; 16] = taken(buf)?;
+        let bytes: [u8; 16] = bytes_in(buf)?;
         Ok(Load::from(bytes))
     }
 }

@@ -5,7 +5,7 @@ ghost use Rattle.line.specs.Words.{at64, bytes64};
 ghost use Rattle.std.proofs.Common.{rules};
 
 use crate::denial::Denial;
-use crate::kind::{LineKind, put, taken};
+use crate::kind::{LineKind, bytes_in, put};
 
 impl LineKind for u64 {
     ghost width = { 8 };
@@ -31,7 +31,7 @@ impl LineKind for u64 {
     }
 
     fn read_from(buf: &[u8]) -> Result<u64, Denial> {
-        let bytes: [u8; 8] = taken(buf)?;
+        let bytes: [u8; 8] = bytes_in(buf)?;
         Ok(u64::from_le_bytes(bytes))
     }
 }
