@@ -56,13 +56,13 @@ pub(crate) fn put_request(file: &mut Vec<u8>, request: Request)
 {
     match request {
         Request::Read { line } => {
-            put(file, b"r");
-            put(file, &line.to_le_bytes());
+            let [low, high] = line.to_le_bytes();
+            put(file, &[b'r', low, high]);
         }
         Request::Write { line, load } => {
+            let [low, high] = line.to_le_bytes();
             let bytes: [u8; 16] = load.into();
-            put(file, b"w");
-            put(file, &line.to_le_bytes());
+            put(file, &[b'w', low, high]);
             put(file, &bytes);
         }
     }

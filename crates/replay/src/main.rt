@@ -15,12 +15,13 @@ const LINES: usize = 4096;
 
 const WIDTH: usize = 16;
 // One byte more than the longest run file has: a file that has it is too long, however much more there is.
-const MOST: u64 = lengths::LONGEST as u64 + 1;
+const MOST: usize = lengths::LONGEST + 1;
 
 fn replay(rt: &HostRuntime) -> anyhow::Result<()> {
     let heap = rt.alloc();
-    let mut file = Vec::new(heap);
-    rt.stdin().take(MOST).read_to_end(&mut file)?;
+    // Room for all of it at once: a vector that grows as it is read would come to twice the longest file.
+    let mut file = Vec::with_capacity(heap, MOST)?;
+    rt.stdin().take(MOST as u64).read_to_end(&mut file)?;
     let mut slots = vec![in heap; Slot::default(); SLOTS]?;
     let mut bytes = vec![in heap; 0u8; LINES * WIDTH]?;
     let mut counts = vec![in heap; 0u32; LINES]?;

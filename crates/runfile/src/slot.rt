@@ -2,7 +2,7 @@
 
 ghost use Rattle.std.specs.Prelude.{◌≡◌, Some};
 ghost use Rattle.runfile.specs.Slots.{slot_of, tag_letter, values};
-ghost use Rattle.runfile.specs.Texts.{slot_text};
+ghost use Rattle.runfile.specs.Texts.{answer_text, slot_text};
 
 use crate::request::Request;
 use line::answer::{Accepted, Answer};
@@ -94,19 +94,32 @@ impl Slot {
     }
 }
 
-/// A slot is shown as the request's letter and line, and then the answer: ok with the toll or the load, or no with the denial's number.
+/// What follows a request: ok with the toll or the load, or no with the denial's number; nothing where it has no answer.
+// A struct around it, since an `Option` and a `Result` are types of another crate, which have no `Display` of ours.
+#[derive(Clone, Copy)]
+pub struct AnswerText(pub Option<Answer<Load>>);
+
+impl fmt::Display for AnswerText {
+    ghost output = { λ t. Some (answer_text t.0) };
+
+    fn fmt<W: fmt::Write>(&self, f: &mut fmt::Formatter<W>) -> fmt::Result {
+        match self.0 {
+            None => Ok(()),
+            Some(Err(denial)) => write!(f, " no {denial}"),
+            Some(Ok(Accepted::Toll(toll))) => write!(f, " ok {toll}"),
+            Some(Ok(Accepted::Line(load))) => write!(f, " ok {load}"),
+        }
+    }
+}
+
+/// A slot is shown as the request's letter and line, and its answer.
 impl fmt::Display for Slot {
     ghost output = { λ s. Some (slot_text s) };
 
     fn fmt<W: fmt::Write>(&self, f: &mut fmt::Formatter<W>) -> fmt::Result {
         let letter = self.tag.letter();
         let line = self.line;
-        write!(f, "{letter} {line}")?;
-        match self.answer {
-            None => Ok(()),
-            Some(Err(denial)) => write!(f, " no {denial}"),
-            Some(Ok(Accepted::Toll(toll))) => write!(f, " ok {toll}"),
-            Some(Ok(Accepted::Line(load))) => write!(f, " ok {load}"),
-        }
+        let answer = AnswerText(self.answer);
+        write!(f, "{letter} {line}{answer}")
     }
 }

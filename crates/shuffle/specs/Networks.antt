@@ -1,7 +1,7 @@
 -- A stage only xors one half with a number that the other half gives, and the other half is kept beside it: so xoring again undoes it,
 -- whatever the round function. That the halves keep their n bits needs of the round function only that it answers n bits.
 -- Both go over to lists of stages by induction, and to numbers since a number below 4 ^ n and its halves are each other's.
-use Rattle.std.specs.Prelude.{◌≡◌, ℕ, ◌^◌, ◌<◌, List, [], ◌∷◌, refl}
+use Rattle.std.specs.Prelude.{◌≡◌, ℕ, ◌/◌, ◌%◌, ◌^◌, ◌<◌, List, [], ◌∷◌, bit_xor, refl}
 use Rattle.std.proofs.Common.{◌∙◌, ap, arith, pow_pos}
 use Rattle.std.proofs.lemmas.Nat.{div-add-mod', div-mul-add, mod-mul-add, div_below, mod_below, mul-add-lt, xor_lt}
 use Rattle.shuffle.specs.Permutations.{Undoes}
@@ -17,6 +17,11 @@ pub halves_within : (n x : ℕ) → x < network_span n → Within n (halves n x)
 halves_within n x h =
     let e = four_square n in
     (div_below x (2 ^ n) (2 ^ n) (pow_pos n) (omega arith), mod_below x (2 ^ n) (pow_pos n))
+
+-- the halves as code makes them, with the size of a half in place of 2 ^ n
+pub split_is : (n x size : ℕ) → size ≡ 2 ^ n → x < network_span n
+    → (let h : Halves = record { left = x / size; right = x % size } in (h ≡ halves n x) × Within n h)
+split_is n x size e h = rw e (refl, halves_within n x h)
 
 joined_below : (n : ℕ) (h : Halves) → Within n h → joined n h < network_span n
 joined_below n h w =
@@ -45,6 +50,15 @@ module _ (f : ℕ → ℕ) where
 
     pub unstage_within : (h : Halves) → Within n h → Within n (unstage f h)
     unstage_within h w = (w.1, xor_lt n h.left (f h.right) w.0 (narrow h.right))
+
+    -- the same, as code makes them from what a round function answered
+    pub stage_is : (h : Halves) (r : ℕ) → r ≡ f h.left → Within n h
+        → (let k : Halves = record { left = bit_xor h.right r; right = h.left } in (k ≡ stage f h) × Within n k)
+    stage_is h r e w = rw e (refl, stage_within h w)
+
+    pub unstage_is : (h : Halves) (r : ℕ) → r ≡ f h.right → Within n h
+        → (let k : Halves = record { left = h.right; right = bit_xor h.left r } in (k ≡ unstage f h) × Within n k)
+    unstage_is h r e w = rw e (refl, unstage_within h w)
 
 -- ---- a list of stages
 unstages_stages : (fs : List (ℕ → ℕ)) (h : Halves) → unstages fs (stages fs h) ≡ h

@@ -1,6 +1,6 @@
--- Powers of four as squares of powers of two, and exclusive or: a number xored twice with the same number is itself.
+-- Powers of four as powers of two and as squares of them, and exclusive or: a number xored twice with the same number is itself.
 use Rattle.std.specs.Prelude.{◌≡◌, ℕ, ◌+◌, ◌*◌, ◌%◌, ◌^◌, ◌<◌, ◌≤◌, bit_xor}
-use Rattle.std.proofs.Common.{◌∙◌, ap, arith, pow-add, pow_mono}
+use Rattle.std.proofs.Common.{sym, ◌∙◌, ap, arith, pow-add, pow_mono}
 use Rattle.std.specs.Int.Bits.{xor_assoc, xor_self, xor_zero_r}
 use Rattle.std.proofs.lemmas.Nat.{mul-le, mul-pow}
 
@@ -9,6 +9,9 @@ xor_back a b = xor_assoc a b b ∙ ap (λ x. bit_xor a x) (xor_self b) ∙ xor_z
 
 pub four_square : (n : ℕ) → 4 ^ n ≡ 2 ^ n * 2 ^ n
 four_square n = mul-pow 2 2 n
+
+pub four_twice : (n : ℕ) → 4 ^ n ≡ 2 ^ (n + n)
+four_twice n = four_square n ∙ sym (pow-add 2 n n)
 
 pub four_few : (n : ℕ) → n ≤ 6 → 4 ^ n ≤ 4096
 four_few n h =

@@ -2,8 +2,8 @@
 -- one at or above n meets a test that is false. A function that another undoes on both sides is a permutation: it is injective since the
 -- other takes equal values to equal numbers, and each number is the value at what the other makes of it.
 use Rattle.std.specs.Prelude.{◌≡◌, ℕ, ◌<◌, ◌≤◌, nat_lt}
-use Rattle.std.proofs.Common.{sym, ◌∙◌, ap, subst}
-use Rattle.std.proofs.lemmas.Bool.{lt-ltb, le-ltb, cond-true, cond-false}
+use Rattle.std.proofs.Common.{sym, ◌∙◌, ap, subst, ⊎_elim}
+use Rattle.std.proofs.lemmas.Bool.{lt-ltb, le-ltb, cases_lt, cond-true, cond-false}
 use Rattle.shuffle.specs.Permutations.{below, Permutes, Undoes}
 
 pub below_in : (n : ℕ) (f : ℕ → ℕ) (x : ℕ) → x < n → below n f x ≡ f x
@@ -32,13 +32,25 @@ below_undoes n f g sf sg u v = record {
   back_rest = below_out n g;
 }
 
-pub forward_permutes : (n : ℕ) (f g : ℕ → ℕ) → Undoes n f g → Permutes n f
-forward_permutes n f g u = record {
-  within = u.stays;
-  injective = λ x y hx hy e. sym (u.undone x hx) ∙ ap g e ∙ u.undone y hy;
-  onto = λ y h. (g y, u.back_stays y h, u.back_undone y h);
+-- and so of every number x, where the others stay: y is f x as the code has it, and z is g y
+pub undone_all : (n : ℕ) (f g : ℕ → ℕ) → ((x : ℕ) → x < n → g (f x) ≡ x) → ((x : ℕ) → n ≤ x → f x ≡ x) → ((x : ℕ) → n ≤ x → g x ≡ x)
+    → (x y z : ℕ) → y ≡ f x → z ≡ g y → z ≡ x
+undone_all n f g u rf rg x y z e d =
+    d ∙ ap g e ∙ ⊎_elim (u x) (λ (h : n ≤ x). ap g (rf x h) ∙ rg x h) (cases_lt x n)
+
+-- of what the two do from n on, nothing is asked
+pub permutes : (n : ℕ) (f g : ℕ → ℕ)
+    → ((x : ℕ) → x < n → f x < n) → ((x : ℕ) → x < n → g x < n)
+    → ((x : ℕ) → x < n → g (f x) ≡ x) → ((x : ℕ) → x < n → f (g x) ≡ x)
+    → Permutes n f
+permutes n f g sf sg u v = record {
+  within = sf;
+  injective = λ x y hx hy e. sym (u x hx) ∙ ap g e ∙ u y hy;
+  onto = λ y h. (g y, sg y h, v y h);
 }
 
+pub forward_permutes : (n : ℕ) (f g : ℕ → ℕ) → Undoes n f g → Permutes n f
+forward_permutes n f g u = permutes n f g u.stays u.back_stays u.undone u.back_undone
+
 pub back_permutes : (n : ℕ) (f g : ℕ → ℕ) → Undoes n f g → Permutes n g
-back_permutes n f g u = forward_permutes n g f
-    (record { stays = u.back_stays; back_stays = u.stays; undone = u.back_undone; back_undone = u.undone; rest = u.back_rest; back_rest = u.rest })
+back_permutes n f g u = permutes n g f u.back_stays u.stays u.back_undone u.undone

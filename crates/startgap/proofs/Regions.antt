@@ -1,6 +1,6 @@
 -- All regions at one moment. A line is region * K + offset and a place region * (K + 1) + place in the region, with the last part below
 -- the factor; so quotient and remainder give the parts back, and the laws of one region become those of all.
-use Rattle.std.proofs.Common.{◌≡◌, ℕ, ◌+◌, ◌*◌, ◌/◌, ◌%◌, ◌<◌, ◌≤◌, cond, ◌≢◌, ◌⊎◌, Some, None, Option, sym, refl, ap, ◌∙◌, subst, inl, inr, ⊎_elim, add-zero, mod-lt, mod-eq_of_lt, mul_comm, div-lt_iff_lt-mul, div-add-mod', le-div_iff_mul-le, arith}
+use Rattle.std.proofs.Common.{◌≡◌, ℕ, ◌+◌, ◌*◌, ◌/◌, ◌%◌, ◌<◌, ◌≤◌, cond, ◌≢◌, ◌⊎◌, length, Some, None, Option, sym, refl, ap, ◌∙◌, subst, inl, inr, ⊎_elim, add-zero, mod-lt, mod-eq_of_lt, mul_comm, div-lt_iff_lt-mul, mul-zero, div-add-mod', le-div_iff_mul-le, arith}
 use lib.Arith.{digits_lt, digits_div, digits_mod}
 use Rattle.std.proofs.lemmas.List.{length-replicate, get_or-replicate}
 use Rattle.std.proofs.lemmas.Bool.{cases_lt, cases_eq, lt-ltb, le-ltb}
@@ -17,6 +17,13 @@ split K n = sym (div-add-mod' n K)
 pub region_below : (R K n : ℕ) → 0 < K → n < R * K → n / K < R
 region_below R K n k h = (div-lt_iff_lt-mul k).1 h
 
+-- a number below a product: the second factor is not 0
+pub factor_positive : (R K n : ℕ) → n < R * K → 0 < K
+factor_positive R K n h = ⊎_elim
+    (λ (k : 0 < K). k)
+    (λ (k : K ≤ 0). let e : K ≡ 0 = omega arith in let z = ap (λ x. R * x) e ∙ mul-zero R in absurd (omega arith))
+    (cases_lt 0 K)
+
 pub sizes : Sizes
 sizes M R r h =
     let two : 2 ≤ M / R = (le-div_iff_mul-le {k = R} {x = 2} {y = M} r).1 h in
@@ -26,7 +33,7 @@ sizes M R r h =
     let l = mod-lt M r in
     (omega arith, omega arith, omega arith)
 
--- ---- new registers
+-- ---- new registers, and registers from what a layer keeps true
 pub new_row_at : (R K interval region : ℕ) → region < 16 → row_at (new_gaps R K interval) region ≡ new_row K
 new_row_at R K interval region h = get_or-replicate 16 region (new_row K) no_row h
 
@@ -40,6 +47,16 @@ new_sound R K interval f =
       rows = λ region h. subst (λ (w : Row). RowSound K w) (sym (new_row_at R K interval region (omega arith))) (f.sized, omega arith);
       dues = λ region h. subst (λ (w : Row). w.due < interval) (sym (new_row_at R K interval region (omega arith))) f.paced;
     }
+
+pub sound_from : (g : Gaps) (line : ℕ) → line < line_count g → g.regions ≤ length g.rows
+    → ((region : ℕ) → region < g.regions → RowSound g.size (row_at g region))
+    → ((region : ℕ) → region < g.regions → (row_at g region).due < g.interval)
+    → GapsSound g
+sound_from g line h e a b =
+    let z = factor_positive g.regions g.size line h in
+    let r = region_below g.regions g.size line z h in
+    let d = b (line / g.size) r in
+    record { sized = z; paced = omega arith; enough = e; rows = a; dues = b }
 
 -- ---- places and holders by region
 -- the place of a line by its region and offset

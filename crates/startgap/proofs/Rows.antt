@@ -4,7 +4,7 @@ use Rattle.std.proofs.Common.{◌≡◌, ℕ, ◌+◌, ◌-◌, ◌%◌, ◌<◌
 use native.Mathlib.Nat.{mod-eq-sub-mod}
 use Rattle.std.proofs.lemmas.Bool.{cases_lt, lt-ltb, le-ltb, le-leb, lt-leb, eq-eqb, ne_eqb}
 use Rattle.startgap.specs.declared.row.Row.{Row}
-use Rattle.startgap.specs.Rows.{RowSound, rotated, row_place, row_line, row_holder, row_from, row_next, row_counted, row_moved}
+use Rattle.startgap.specs.Rows.{RowSound, rotated, row_place, row_line, row_holder, row_from, row_next, row_counted, row_moved, row_after}
 use Rattle.startgap.specs.Theorems.{Mapping}
 
 -- below twice the modulus
@@ -34,6 +34,14 @@ pub holder_some : (K : ℕ) (w : Row) (place : ℕ) → place ≢ w.gap → row_
 unfolding row_holder
 holder_some K w p ne = ap (λ b. cond b None (Some (row_line K w p))) (ne_eqb p w.gap ne)
 
+pub line_low : (K : ℕ) (w : Row) (place : ℕ) → place < w.gap → row_line K w place ≡ (place + (K - w.start)) % K
+unfolding row_line
+line_low K w p h = ap (λ b. (cond b p (p - 1) + (K - w.start)) % K) (lt-ltb _ _ h)
+
+pub line_high : (K : ℕ) (w : Row) (place : ℕ) → w.gap ≤ place → row_line K w place ≡ (place - 1 + (K - w.start)) % K
+unfolding row_line
+line_high K w p h = ap (λ b. (cond b p (p - 1) + (K - w.start)) % K) (le-ltb _ _ h)
+
 pub from_high : (K : ℕ) (w : Row) → 0 < w.gap → row_from K w ≡ w.gap - 1
 unfolding row_from
 from_high K w h = ap (λ b. cond b (w.gap - 1) K) (lt-ltb 0 w.gap h)
@@ -57,6 +65,12 @@ moved_gap K w = refl
 pub moved_due : (K : ℕ) (w : Row) → (row_moved K w).due ≡ 0
 unfolding row_moved
 moved_due K w = refl
+
+pub after_counts : (K interval : ℕ) (w : Row) → w.due + 1 ≢ interval → row_after K interval w ≡ row_counted w
+after_counts K interval w ne = ap (λ b. cond b (row_moved K w) (row_counted w)) (ne_eqb _ _ ne)
+
+pub after_moves : (K interval : ℕ) (w : Row) → w.due + 1 ≡ interval → row_after K interval w ≡ row_moved K w
+after_moves K interval w e = ap (λ b. cond b (row_moved K w) (row_counted w)) (eq-eqb _ _ e)
 
 -- a write that is only counted changes neither places nor lines
 pub counted_place : (K : ℕ) (w : Row) (offset : ℕ) → row_place K (row_counted w) offset ≡ row_place K w offset
