@@ -19,8 +19,9 @@ const MOST: usize = lengths::LONGEST + 1;
 
 fn replay(rt: &HostRuntime) -> anyhow::Result<()> {
     let heap = rt.alloc();
-    // Room for all of it at once: a vector that grows as it is read would come to twice the longest file.
-    let mut file = Vec::with_capacity(heap, MOST)?;
+    // Room for all of it at once, and a byte more, so that the end is found without growing: a vector that grows as it is read comes to
+    // twice the longest file.
+    let mut file = Vec::with_capacity(heap, MOST + 1)?;
     rt.stdin().take(MOST as u64).read_to_end(&mut file)?;
     let mut slots = vec![in heap; Slot::default(); SLOTS]?;
     let mut bytes = vec![in heap; 0u8; LINES * WIDTH]?;
