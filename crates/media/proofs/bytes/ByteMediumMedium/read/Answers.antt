@@ -13,7 +13,8 @@ returns-then-line-count g c =
 pub slice_bounds-read_from-end : goal.slice_bounds-read_from-end
 slice_bounds-read_from-end g c =
     let m = c.args.self.now in
-    line_room g.K.LineKind.reading g.K.LineKind.width c.width-width.result (length m.counts.now) c.args.line m.bytes.now (omega arith) c.width-width.ensures
+    let room = line_room g.K.LineKind.reading g.K.LineKind.width c.width-width.result (length m.counts.now) c.args.line m.bytes.now (omega arith) c.width-width.ensures in
+    omega arith
 
 pub returns : goal.returns
 returns g c =
